@@ -1,0 +1,4 @@
+pub mod Fold
+pub mod Store
+pub mod Table
+pub mod Unique

@@ -1,0 +1,30 @@
+-- How tight a contract is: any two results that it allows for the same arguments are equal.
+use Prim.Native.Nat.{ℕ}
+use mathlib.Core.List.{List}
+use mathlib.Core.Path.{_≡_, _∙_, sym}
+use contract.Lifetimes.{Lfts}
+use borrow.Fn.Kind.{PK, RK}
+use borrow.Fn.Kinds.{Out, Dens, resT, endedOf}
+use denote.Triple.Clauses.{AtExit}
+use Rattle.base.proofs.and.Kinds as and-kinds
+use Rattle.base.proofs.and.Reads as and-reads
+use Rattle.base.proofs.or.Kinds as or-kinds
+use Rattle.base.proofs.or.Reads as or-reads
+
+-- `ensures` is a contract as the source states it: of the arguments, a result, and the arguments as the function returns
+abbrev pub Unique : {n : ℕ} (ps : List (PK n)) (r : RK n) → Out n ps r → Type 0
+Unique {n} ps r ensures =
+    (κs : Lfts n) (args : Dens κs ps) (x y : resT r κs .Denot) (at-x at-y : AtExit (endedOf n ps r) κs)
+    → ensures κs args x at-x
+    → ensures κs args y at-y
+    → x ≡ y
+
+-- what equals one thing is equal
+pub same : {A : Type 0} {x y z : A} → x ≡ z → y ≡ z → x ≡ y
+same p q = p ∙ sym q
+
+pub and-unique : Unique and-kinds.ps and-kinds.r and-reads.Post
+and-unique κs args x y at-x at-y = same
+
+pub or-unique : Unique or-kinds.ps or-kinds.r or-reads.Post
+or-unique κs args x y at-x at-y = same

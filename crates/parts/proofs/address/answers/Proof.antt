@@ -1,0 +1,17 @@
+use Rattle.parts.proofs.part.Laws.{sound-of}
+use Rattle.parts.proofs.address.Laws.{codes-some}
+use borrow.Author.Needs.{needs}
+use Rattle.parts.proofs.address.answers.Statement.{statement}
+use Rattle.parts.proofs.address.answers.Tie as tie
+
+codes-of-requires : tie.Need-codes-of-requires
+codes-of-requires c κs = search needs
+
+div-result : tie.Need-div-result
+div-result c = rw (c .codes-of .ensures) (codes-some _ (sound-of (c .before .args .part)))
+
+returns : tie.Need-returns
+returns c = rw (c .codes-of .ensures)
+
+pub answers-spec : {M : Type 1} → statement M
+answers-spec = tie.close (tie.spec codes-of-requires div-result returns)

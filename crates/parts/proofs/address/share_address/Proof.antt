@@ -1,0 +1,51 @@
+use Rattle.parts.proofs.part.Laws.{sound-of}
+use Rattle.parts.proofs.address.Laws.{codes-end}
+use native.Mathlib.Omega.{arith}
+use borrow.Author.Needs.{needs}
+use Rattle.parts.proofs.address.share_address.Statement.{statement}
+use Rattle.parts.proofs.address.share_address.Tie as tie
+
+codes-of-requires : tie.Need-codes-of-requires
+codes-of-requires c κs = search needs
+
+cast-codes : tie.Need-cast-codes
+cast-codes c = search needs
+
+codes-of-requires-2 : tie.Need-codes-of-requires-2
+codes-of-requires-2 c κs = search needs
+
+cast-others : tie.Need-cast-others
+cast-others c = search needs
+
+mul-first : tie.Need-mul-first
+mul-first c = let a = c .before .before .args in let f = c .before .before .fits in rw (c .before .codes-of .ensures) (omega (arith, codes-end _ (sound-of (a .part)) (a .strap) (f .strap .fits)))
+
+mul-second : tie.Need-mul-second
+mul-second c = let a = c .before .before .args in let f = c .before .before .fits in rw (c .codes-of2 .ensures) (omega (arith, codes-end _ (sound-of (a .other)) (a .beside) (f .beside .fits)))
+
+add-and : tie.Need-add-and
+add-and c = let a = c .before .before .args in let f = c .before .before .fits in rw (c .codes-of2 .ensures) (omega (arith, codes-end _ (sound-of (a .other)) (a .beside) (f .beside .fits)))
+
+add-and-2 : tie.Need-add-and-2
+add-and-2 c = let a = c .before .before .args in let f = c .before .before .fits in rw (c .before .codes-of .ensures) (omega (arith, codes-end _ (sound-of (a .part)) (a .strap) (f .strap .fits)))
+
+and-requires : tie.Need-and-requires
+and-requires c κs = search needs
+
+returns : tie.Need-returns
+returns c = rw (c .and .ensures, c .before .codes-of2 .ensures, c .before .before .codes-of .ensures)
+
+pub share-address-spec : {M : Type 1} → statement M
+share-address-spec =
+    tie.close
+    (tie.spec
+    codes-of-requires
+    cast-codes
+    codes-of-requires-2
+    cast-others
+    mul-first
+    mul-second
+    add-and
+    add-and-2
+    and-requires
+    returns)

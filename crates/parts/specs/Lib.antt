@@ -1,0 +1,5 @@
+pub mod Part
+pub mod Page
+pub mod Zone
+pub mod Counter
+pub mod Address

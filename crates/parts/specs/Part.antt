@@ -1,0 +1,40 @@
+-- The parts, their figures, and what makes figures sound (paper, the table of "What the bench plays"; sheets, Table 11-1).
+use Prim.Native.Nat.{ℕ, _*_, _/_, _<_, _≤_, _^_}
+use mathlib.Core.Bool.{Bool, cond, _||_}
+use mathlib.Core.List.{[], _∷_}
+use mathlib.Core.Path.{_≡_}
+use lib.Dec.{eqb}
+use Rattle.parts.specs.declared.part.Geometry.{Geometry}
+
+-- | part | array | page | zone | security register | read-only half | ID page | straps |, and the ID bytes
+abbrev pub geometry24CSM01 : Geometry
+geometry24CSM01 =
+    record { array = 131072; page = 256; zone = 16384; security = 512; readonly = 256; idpage = 256; straps = 4; id = 0x00 ∷ 0xD0 ∷ 0xD0 ∷ [] }
+
+abbrev pub geometry24CS32 : Geometry
+geometry24CS32 =
+    record { array = 4096; page = 32; zone = 512; security = 64; readonly = 32; idpage = 32; straps = 8; id = 0x00 ∷ 0xD0 ∷ 0xA8 ∷ [] }
+
+-- 24CSM01 is part 1, 24CS32 is part 2
+abbrev pub isPart : ℕ → Bool
+isPart part = eqb part 1 || eqb part 2
+
+-- a number that is no part has the 24CS32's figures
+unfoldable pub geometryOf : ℕ → Geometry
+geometryOf part = cond (eqb part 1) geometry24CSM01 geometry24CS32
+
+-- what the laws of pages, zones, counters and codes stand on
+pub record Sound (g : Geometry) : Type 0 where
+  -- a page is at least a byte and at most 256, and addresses of 32 bits are whole pages
+  pub page-some : 0 < g .page
+  pub page-most : g .page ≤ 256
+  pub page-fits : 2 ^ 32 / g .page * g .page ≡ 2 ^ 32
+  -- a zone is whole pages, and the array is eight zones
+  pub zone-whole : g .zone / g .page * g .page ≡ g .zone
+  pub zone-some : 0 < g .zone
+  pub zone-eight : 8 * g .zone ≡ g .array
+  pub array-most : g .array ≤ 2 ^ 24
+  pub security-some : 0 < g .security
+  -- there is a code for each strap, of which there are eight (`Address`)
+  pub straps-some : 0 < g .straps
+  pub straps-most : g .straps ≤ 8

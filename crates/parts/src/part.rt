@@ -1,0 +1,96 @@
+// The parts and their figures (paper, the table of "What the bench plays"; ID bytes: the sheets' Table 11-1).
+ghost use mathlib.Core.Path.{_≡_};
+ghost use Rattle.parts.specs.Part.{isPart, geometryOf};
+
+// Source document 000.
+pub struct Part24CSM01 {}
+
+impl Part24CSM01 {
+    pub const NUMBER: u8 = 1;
+
+    pub const ARRAY: u32 = 131_072;
+
+    pub const PAGE: u32 = 256;
+
+    pub const ZONE: u32 = 16_384;
+
+    pub const SECURITY: u32 = 512;
+
+    pub const READ_ONLY: u32 = 256;
+
+    pub const ID_PAGE: u32 = 256;
+
+    pub const STRAPS: u8 = 4;
+
+    pub const ID: [u8; 3] = [0x00, 0xD0, 0xD0];
+}
+
+// Source document 001.
+pub struct Part24CS32 {}
+
+impl Part24CS32 {
+    pub const NUMBER: u8 = 2;
+
+    pub const ARRAY: u32 = 4_096;
+
+    pub const PAGE: u32 = 32;
+
+    pub const ZONE: u32 = 512;
+
+    pub const SECURITY: u32 = 64;
+
+    pub const READ_ONLY: u32 = 32;
+
+    pub const ID_PAGE: u32 = 32;
+
+    pub const STRAPS: u8 = 8;
+
+    pub const ID: [u8; 3] = [0x00, 0xD0, 0xA8];
+}
+
+// A part's figures by value: sizes in bytes, the number of straps, the three ID bytes.
+pub struct Geometry {
+    pub array: u32,
+    pub page: u32,
+    pub zone: u32,
+    pub security: u32,
+    pub readonly: u32,
+    pub idpage: u32,
+    pub straps: u8,
+    pub id: [u8; 3],
+}
+
+pub fn is_part(part: u8) -> bool
+    ensures { λ r. ⌜ r ≡ isPart part ⌝ }
+{
+    base::test::or(part == Part24CSM01::NUMBER, part == Part24CS32::NUMBER)
+}
+
+// A number that is no part has the 24CS32's figures, so that every function above is total; no bus lets one through.
+pub fn geometry_of(part: u8) -> Geometry
+    ensures { λ r. ⌜ r ≡ geometryOf part ⌝ }
+{
+    if part == Part24CSM01::NUMBER {
+        Geometry {
+            array: Part24CSM01::ARRAY,
+            page: Part24CSM01::PAGE,
+            zone: Part24CSM01::ZONE,
+            security: Part24CSM01::SECURITY,
+            readonly: Part24CSM01::READ_ONLY,
+            idpage: Part24CSM01::ID_PAGE,
+            straps: Part24CSM01::STRAPS,
+            id: Part24CSM01::ID,
+        }
+    } else {
+        Geometry {
+            array: Part24CS32::ARRAY,
+            page: Part24CS32::PAGE,
+            zone: Part24CS32::ZONE,
+            security: Part24CS32::SECURITY,
+            readonly: Part24CS32::READ_ONLY,
+            idpage: Part24CS32::ID_PAGE,
+            straps: Part24CS32::STRAPS,
+            id: Part24CS32::ID,
+        }
+    }
+}

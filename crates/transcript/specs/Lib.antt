@@ -1,0 +1,4 @@
+pub mod Digit
+pub mod Line
+pub mod Print
+pub mod Reader

@@ -1,0 +1,20 @@
+-- Kind, value, status, reply as eight digits and LF (paper, "The transcript").
+use Prim.Native.Nat.{ℕ, _+_, _/_, _%_}
+use mathlib.Core.Bool.{cond}
+use mathlib.Core.List.{List, [], _∷_, _++_}
+use lib.Dec.{ltb}
+use Rattle.base.specs.Word.{highOf, lowOf}
+use Rattle.transcript.specs.Line.{lf}
+
+-- the digit for a value below 16: '0' to '9', 'A' to 'F'
+abbrev pub digitText : ℕ → ℕ
+digitText value = cond (ltb value 10) (48 + value) (55 + value)
+
+abbrev pub byteText : ℕ → List ℕ
+byteText byte = digitText (byte / 16) ∷ digitText (byte % 16) ∷ []
+
+abbrev pub wordText : ℕ → List ℕ
+wordText word = byteText (highOf word) ++ byteText (lowOf word)
+
+abbrev pub printed : ℕ → ℕ → List ℕ
+printed event answer = wordText event ++ (wordText answer ++ (lf ∷ []))

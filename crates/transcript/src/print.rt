@@ -1,0 +1,40 @@
+// An event and its answer as text: kind, value, status, reply as eight digits, then LF (paper, "The transcript").
+use crate::digit::DIGITS;
+use crate::line::LF;
+ghost use mathlib.Core.Path.{_≡_};
+ghost use Prim.Native.Nat.{_<_};
+ghost use Rattle.transcript.specs.Print.{digitText, printed};
+
+// How many bytes an event and its answer have as text.
+pub const PRINTED: usize = 9;
+
+fn digit_text(value: u8) -> u8
+    requires { ⌜ value < 16 ⌝ }
+    ensures { λ r. ⌜ r ≡ digitText value ⌝ }
+{
+    if value < 10 {
+        b'0' + value
+    } else {
+        b'A' - 10 + value
+    }
+}
+
+pub fn printed(event: u16, answer: u16) -> [u8; PRINTED]
+    ensures { λ r. ⌜ r ≡ printed event answer ⌝ }
+{
+    let kind = base::word::high_of(event);
+    let value = base::word::low_of(event);
+    let status = base::word::high_of(answer);
+    let reply = base::word::low_of(answer);
+    [
+        digit_text(kind / DIGITS),
+        digit_text(kind % DIGITS),
+        digit_text(value / DIGITS),
+        digit_text(value % DIGITS),
+        digit_text(status / DIGITS),
+        digit_text(status % DIGITS),
+        digit_text(reply / DIGITS),
+        digit_text(reply % DIGITS),
+        LF,
+    ]
+}

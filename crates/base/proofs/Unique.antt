@@ -12,10 +12,6 @@ use Rattle.base.proofs.test.or.Kinds as or-kinds
 use Rattle.base.proofs.test.or.Reads as or-reads
 use Rattle.base.proofs.word.word_of.Kinds as word-of-kinds
 use Rattle.base.proofs.word.word_of.Reads as word-of-reads
-use Rattle.base.proofs.word.high_of.Kinds as high-of-kinds
-use Rattle.base.proofs.word.high_of.Reads as high-of-reads
-use Rattle.base.proofs.word.low_of.Kinds as low-of-kinds
-use Rattle.base.proofs.word.low_of.Reads as low-of-reads
 
 -- `ensures` is a contract as the source states it: of the arguments, a result, and the arguments as the function returns
 abbrev pub Unique : {n : ℕ} (ps : List (PK n)) (r : RK n) → Out n ps r → Type 0
@@ -37,9 +33,3 @@ or-unique κs args x y at-x at-y = same
 
 pub word-of-unique : Unique word-of-kinds.ps word-of-kinds.r word-of-reads.Post
 word-of-unique κs args x y at-x at-y = same
-
-pub high-of-unique : Unique high-of-kinds.ps high-of-kinds.r high-of-reads.Post
-high-of-unique κs args x y at-x at-y = same
-
-pub low-of-unique : Unique low-of-kinds.ps low-of-kinds.r low-of-reads.Post
-low-of-unique κs args x y at-x at-y = same

@@ -1,6 +1,3 @@
-// What a part is: its figures, and the arithmetic of its pages, zones, counters and address codes.
+// What a part is: its figures, and the codes that its chips answer.
 pub mod address;
-pub mod counter;
-pub mod page;
 pub mod part;
-pub mod zone;

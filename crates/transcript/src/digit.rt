@@ -57,7 +57,7 @@ const DIGIT: [u8; 256] = [
     NO_DIGIT,
     NO_DIGIT,
     NO_DIGIT,
-    0,
+    0, // '0'
     1,
     2,
     3,
@@ -67,19 +67,20 @@ const DIGIT: [u8; 256] = [
     7,
     8,
     9,
+    NO_DIGIT, // past '9'
     NO_DIGIT,
     NO_DIGIT,
     NO_DIGIT,
     NO_DIGIT,
     NO_DIGIT,
     NO_DIGIT,
-    NO_DIGIT,
-    10,
+    10, // 'A'
     11,
     12,
     13,
     14,
     15,
+    NO_DIGIT, // past 'F'
     NO_DIGIT,
     NO_DIGIT,
     NO_DIGIT,
@@ -105,8 +106,7 @@ const DIGIT: [u8; 256] = [
     NO_DIGIT,
     NO_DIGIT,
     NO_DIGIT,
-    NO_DIGIT,
-    NO_DIGIT,
+    NO_DIGIT, // 'a': lower case is no digit
     NO_DIGIT,
     NO_DIGIT,
     NO_DIGIT,

@@ -2,4 +2,3 @@
 pub mod digit;
 pub mod line;
 pub mod print;
-pub mod reader;

@@ -1,6 +1,7 @@
 // An event and its answer as text: kind, value, status, reply as eight digits, then LF (paper, "The transcript").
-use crate::digit::DIGITS;
+use crate::digit;
 use crate::line::LF;
+use base::word::BYTE;
 ghost use mathlib.Core.Path.{_≡_};
 ghost use Prim.Native.Nat.{_<_};
 ghost use Rattle.transcript.specs.Print.{digitText, printed};
@@ -8,10 +9,14 @@ ghost use Rattle.transcript.specs.Print.{digitText, printed};
 // How many bytes an event and its answer have as text.
 pub const PRINTED: usize = 9;
 
-fn digit_text(value: u8) -> u8
+// How many digits there are, as wide as a word.
+const DIGITS: u16 = digit::DIGITS as u16;
+
+fn digit_text(value: u16) -> u8
     requires { ⌜ value < 16 ⌝ }
     ensures { λ r. ⌜ r ≡ digitText value ⌝ }
 {
+    let value = value as u8;
     if value < 10 {
         b'0' + value
     } else {
@@ -22,10 +27,10 @@ fn digit_text(value: u8) -> u8
 pub fn printed(event: u16, answer: u16) -> [u8; PRINTED]
     ensures { λ r. ⌜ r ≡ printed event answer ⌝ }
 {
-    let kind = base::word::high_of(event);
-    let value = base::word::low_of(event);
-    let status = base::word::high_of(answer);
-    let reply = base::word::low_of(answer);
+    let kind = event / BYTE;
+    let value = event % BYTE;
+    let status = answer / BYTE;
+    let reply = answer % BYTE;
     [
         digit_text(kind / DIGITS),
         digit_text(kind % DIGITS),

@@ -3,6 +3,9 @@ use borrow.Author.Needs.{needs}
 use Rattle.transcript.proofs.print.digit_text.Statement.{statement}
 use Rattle.transcript.proofs.print.digit_text.Tie as tie
 
+cast-value : tie.Need-cast-value
+cast-value c = search needs
+
 add-result : tie.Need-add-result
 add-result c = search needs
 
@@ -19,4 +22,5 @@ returns-2 : tie.Need-returns-2
 returns-2 c = simp (le-ltb _ _ (c .if1 .left))
 
 pub digit-text-spec : {M : Type 1} → statement M
-digit-text-spec = tie.close (tie.spec add-result sub-result add-result-2 returns returns-2)
+digit-text-spec =
+    tie.close (tie.spec cast-value add-result sub-result add-result-2 returns returns-2)

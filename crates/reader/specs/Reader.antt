@@ -1,0 +1,24 @@
+-- The reader carries the transcript it was lent and its place in it (paper, "The transcript").
+use Prim.Native.Nat.{ℕ}
+use mathlib.Core.List.{List}
+use mathlib.Core.Path.{_≡_}
+use denote.Ref.{RefT, now}
+use Rattle.transcript.specs.Line.{lineAt, meaning}
+use Rattle.transcript.specs.declared.line.Line.{Line}
+use Rattle.reader.specs.declared.Reader.{Reader}
+
+abbrev pub fromStart : RefT (List ℕ) → Reader
+fromStart text = record { text = text; at = 0 }
+
+-- the line at the reader's place
+abbrev pub lineFor : Reader → Line
+lineFor reader = lineAt (now (reader .text)) (reader .at)
+
+-- the same transcript, at the place after that line
+abbrev pub movedOn : Reader → Reader
+movedOn reader = record { text = reader .text; at = meaning (lineFor reader) (reader .at) .place }
+
+-- what the reader answers, and what it is afterwards
+pub record Answered (reader : Reader) (line : Line) (after : Reader) : Type 0 where
+  pub answer : line ≡ lineFor reader
+  pub moved : after ≡ movedOn reader

@@ -1,0 +1,29 @@
+// The reader carries the transcript it was lent and its place in it (paper, "The transcript"). Both functions take the
+// reader apart and leave the work to `line`, whose functions take a slice and a number.
+use transcript::line::Line;
+use transcript::line::line_at;
+use transcript::line::place_after;
+ghost use mathlib.Core.Path.{_≡_};
+ghost use Rattle.reader.specs.Reader.{fromStart, Answered};
+
+pub struct Reader<'a> {
+    pub text: &'a [u8],
+    pub at: usize,
+}
+
+impl<'a> Reader<'a> {
+    pub fn new(text: &'a [u8]) -> Reader<'a>
+        ensures { λ r. ⌜ r ≡ fromStart (text .entry) ⌝ }
+    {
+        Reader { text, at: 0 }
+    }
+
+    // Answers, and moves on where it stands: past an event's line; 9 and the end leave the place.
+    pub fn next<'s>(&'s mut self) -> Line
+        ensures { λ line. ⌜ Answered (now (self .entry)) line (now (self .exit)) ⌝ }
+    {
+        let line = line_at(self.text, self.at);
+        self.at = place_after(line, self.at);
+        line
+    }
+}

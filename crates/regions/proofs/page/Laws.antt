@@ -1,0 +1,49 @@
+-- Pages, over any sound figures: an address is its page and its place there, and a load goes round its page.
+use Prim.Native.Nat.{ℕ, _+_, _*_, _/_, _%_, _<_, _≤_, _^_}
+use native.Mathlib.Nat.{mod-lt, mod-self, mod-eq-of-lt, div-lt-iff-lt-mul, mul-add-div-right, mul-add-mod-self-right, div-eq-of-lt, mul-le-mul-right, add-mul, one-mul}
+use native.Mathlib.Decide.{decLt}
+use native.Mathlib.Omega.{arith}
+use mathlib.Core.Path.{_≡_, _∙_, sym, ap}
+use borrow.Author.Tests.{lt-ltb, le-ltb}
+use Rattle.parts.specs.declared.part.Geometry.{Geometry}
+use Rattle.parts.specs.Part.{Sound}
+use Rattle.regions.specs.Page.{pageOf, placeOf, nextIn, nextInPage}
+
+-- going round a region stays in it, and is the sum modulo its size
+pub next-below : (size at : ℕ) → 0 < size → nextIn size at < size
+next-below size at some = go (decLt (at + 1) size)
+  where
+    go : Dec (at + 1 < size) → nextIn size at < size
+    go (yes p) = rw (lt-ltb _ _ p) p
+    go (no p) = let over : size ≤ at + 1 = omega arith in rw (le-ltb _ _ over) some
+
+pub next-is-mod : (size at : ℕ) → at < size → nextIn size at ≡ (at + 1) % size
+next-is-mod size at inside = go (decLt (at + 1) size)
+  where
+    go : Dec (at + 1 < size) → nextIn size at ≡ (at + 1) % size
+    go (yes p) = rw (lt-ltb _ _ p) (sym (mod-eq-of-lt p))
+    go (no p) = let last : at + 1 ≡ size = omega arith in let over : size ≤ at + 1 = omega arith in rw (le-ltb _ _ over) (sym (ap (λ (n : ℕ). n % size) last ∙ mod-self size))
+
+module _ (g : Geometry) (sound : Sound g) (at : ℕ) where
+  pub place-below : placeOf g at < g .page
+  place-below = mod-lt at (sound .page-some)
+
+  pub next-place-below : nextIn (g .page) (placeOf g at) < g .page
+  next-place-below = next-below (g .page) (placeOf g at) (sound .page-some)
+
+  -- the page of an address of 32 bits ends below 2 ^ 32
+  pub page-ends : at < 2 ^ 32 → pageOf g at * g .page + g .page ≤ 2 ^ 32
+  page-ends fits =
+      let below : pageOf g at < 2 ^ 32 / g .page = div-lt-iff-lt-mul (sound .page-some) .1 (omega (arith, sound .page-fits)) in
+      omega (arith, mul-le-mul-right (g .page) below, add-mul (pageOf g at) 1 (g .page), one-mul (g .page), sound .page-fits)
+
+  -- the next place stays in the page, and is the one after
+  pub next-stays : pageOf g (nextInPage g at) ≡ pageOf g at
+  next-stays =
+      mul-add-div-right (sound .page-some) (pageOf g at) (nextIn (g .page) (placeOf g at))
+      ∙ ap (λ (n : ℕ). pageOf g at + n) (div-eq-of-lt next-place-below)
+      ∙ omega arith
+
+  pub next-place : placeOf g (nextInPage g at) ≡ nextIn (g .page) (placeOf g at)
+  next-place =
+      mul-add-mod-self-right (pageOf g at) (g .page) (nextIn (g .page) (placeOf g at)) ∙ mod-eq-of-lt next-place-below

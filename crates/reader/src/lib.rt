@@ -1,14 +1,25 @@
-// The reader carries the transcript it was lent and its place in it (paper, "The transcript"). Both functions take the
-// reader apart and leave the work to `line`, whose functions take a slice and a number.
+// The reader carries the transcript it was lent and its place in it (paper, "The transcript"). Its functions take the reader
+// apart, and leave the work to functions of a slice and a number.
 use transcript::line::Line;
 use transcript::line::line_at;
-use transcript::line::place_after;
 ghost use mathlib.Core.Path.{_≡_};
+ghost use Rattle.transcript.specs.Line.{meaning};
 ghost use Rattle.reader.specs.Reader.{fromStart, Answered};
 
 pub struct Reader<'a> {
     pub text: &'a [u8],
     pub at: usize,
+}
+
+// The place after an answer that was given at a place: past an event's line, and where it was otherwise.
+fn place_after(line: Line, at: usize) -> usize
+    ensures { λ r. ⌜ r ≡ meaning line at .place ⌝ }
+{
+    match line {
+        Line::Event(_, next) => next,
+        Line::Malformed => at,
+        Line::End => at,
+    }
 }
 
 impl<'a> Reader<'a> {

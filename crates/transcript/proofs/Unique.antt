@@ -4,19 +4,9 @@ use Rattle.transcript.proofs.digit.digit_of.Kinds as digit-of-kinds
 use Rattle.transcript.proofs.digit.digit_of.Reads as digit-of-reads
 use Rattle.transcript.proofs.line.line_at.Kinds as line-at-kinds
 use Rattle.transcript.proofs.line.line_at.Reads as line-at-reads
-use Rattle.transcript.proofs.line.place_after.Kinds as place-after-kinds
-use Rattle.transcript.proofs.line.place_after.Reads as place-after-reads
-use Rattle.transcript.proofs.print.printed.Kinds as printed-kinds
-use Rattle.transcript.proofs.print.printed.Reads as printed-reads
 
 pub digit-of-unique : Unique digit-of-kinds.ps digit-of-kinds.r digit-of-reads.Post
 digit-of-unique κs args x y at-x at-y = same
 
 pub line-at-unique : Unique line-at-kinds.ps line-at-kinds.r line-at-reads.Post
 line-at-unique κs args x y at-x at-y = same
-
-pub place-after-unique : Unique place-after-kinds.ps place-after-kinds.r place-after-reads.Post
-place-after-unique κs args x y at-x at-y = same
-
-pub printed-unique : Unique printed-kinds.ps printed-kinds.r printed-reads.Post
-printed-unique κs args x y at-x at-y = same

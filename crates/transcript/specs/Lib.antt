@@ -1,3 +1,2 @@
 pub mod Digit
 pub mod Line
-pub mod Print

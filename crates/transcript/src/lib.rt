@@ -1,4 +1,3 @@
-// The text of events and answers (paper, "The transcript").
+// The text of events: digits and lines (paper, "The transcript").
 pub mod digit;
 pub mod line;
-pub mod print;

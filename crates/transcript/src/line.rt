@@ -3,7 +3,7 @@ use crate::digit::DIGITS;
 use crate::digit::digit_of;
 ghost use mathlib.Core.Path.{_≡_};
 ghost use mathlib.Core.Bool.{cond};
-ghost use Rattle.transcript.specs.Line.{isFrame, eventOf, lineAt, meaning};
+ghost use Rattle.transcript.specs.Line.{isFrame, eventOf, lineAt};
 
 pub const LF: u8 = 10;
 
@@ -65,15 +65,4 @@ pub fn line_at(text: &[u8], at: usize) -> Line
         text[at + 4],
         at + LINE,
     )
-}
-
-// The place after an answer that was given at a place: past an event's line, and where it was otherwise.
-pub fn place_after(line: Line, at: usize) -> usize
-    ensures { λ r. ⌜ r ≡ meaning line at .place ⌝ }
-{
-    match line {
-        Line::Event(_, next) => next,
-        Line::Malformed => at,
-        Line::End => at,
-    }
 }

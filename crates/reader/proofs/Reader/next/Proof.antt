@@ -55,10 +55,10 @@ use Rattle.transcript.proofs.line.line_at as line-at
 use Rattle.transcript.proofs.line.line_at.Symbol as line-at-def
 use Rattle.transcript.proofs.line.line_at.Symbol.{name as #transcript·line·line-at}
 use Rattle.transcript.proofs.line.line_at.Met as line-at-thm
-use Rattle.transcript.proofs.line.place_after as place-after
-use Rattle.transcript.proofs.line.place_after.Symbol as place-after-def
-use Rattle.transcript.proofs.line.place_after.Symbol.{name as #transcript·line·place-after}
-use Rattle.transcript.proofs.line.place_after.Met as place-after-thm
+use Rattle.reader.proofs.place_after as place-after
+use Rattle.reader.proofs.place_after.Symbol as place-after-def
+use Rattle.reader.proofs.place_after.Symbol.{name as #reader·place-after}
+use Rattle.reader.proofs.place_after.Met as place-after-thm
 use Rattle.reader.proofs.Reader.next.Key.{name as #reader·Reader·next}
 use Rattle.reader.proofs.Reader.next as next
 use Rattle.reader.proofs.Reader.next.Statement as stated
@@ -169,7 +169,7 @@ module _ {M : Type 1} (𝓤 : URA M) (H : Heap 𝓤) (A : Atoms 𝓤) (W : Given
         qed W (Left line u m) ∵ suffices ! _ (ends-at 𝓤 H A next.ended stayed (next.clauses 𝓤 H A mem run) W passed u line (moved-to m, tt) (tt, tt)) $ says ! (answered line m e e′) $
         move ! (2 ∷ 4 ∷ []) $ join ! $ frame ! $ feqI ! (List Val) (vptr b o ∷ []) (vptr b o ∷ []) refl $ fjoin3 ! $ nothing ! $ move ! (1 ∷ 0 ∷ []) $ fjoin ! $ frame ! $ done !
 
-    walk : (𝓣 : Tables 𝓤 H) → Triple 𝓤 (𝓣 .C #transcript·line·line-at) LineAt → Triple 𝓤 (𝓣 .C #transcript·line·place-after) PlaceAfter → ent 𝓤 (Walk .pre passed) (WpFn 𝓤 H (𝓣 .C) (𝓣 .Λ) code.function (vptr b o ∷ []) (Walk .post passed))
+    walk : (𝓣 : Tables 𝓤 H) → Triple 𝓤 (𝓣 .C #transcript·line·line-at) LineAt → Triple 𝓤 (𝓣 .C #reader·place-after) PlaceAfter → ent 𝓤 (Walk .pre passed) (WpFn 𝓤 H (𝓣 .C) (𝓣 .Λ) code.function (vptr b o ∷ []) (Walk .post passed))
     walk 𝓣 line-known place-known =
         qed W (((‵ (flft κ q) ⊛ ‵ (flft κ′ q′) ⊛ ‵ ftrue) ⊛ ‵ (owns (MutRef (named 0) κ R ∷ []) self (vptr b o ∷ [], tt))) ∷ ‵ ftrue ∷ []) ∵ split ! $ keep ! (0 ∷ 1 ∷ []) $ enter ! (𝓣 .C) (𝓣 .Λ) code.function (vptr b o ∷ []) _ $
         alloc1 ! (λ l₀. alloc1 ! (λ l₁. alloc1 ! (λ l₂. alloc1 ! (λ l₃. alloc1 ! (λ l₄. alloc1 ! (λ l₅. alloc0 ! $ params1 ! $ pass1 ! (init ! 8 refl (tt, tt)) $ pass0 ! $
@@ -215,7 +215,7 @@ module _ {M : Type 1} (𝓤 : URA M) (H : Heap 𝓤) (A : Atoms 𝓤) (W : Given
         typed : (line : Line) (u : Val) → Is S.the-row line (u ∷ []) → Typed (S.the-row .mir) (u ∷ [])
         typed line u = EL.lawful S.the-type S′.the-laws 𝓤 H A W tt .typed line (u ∷ [])
 
-  next-meets : (𝓣 : Tables 𝓤 H) → Triple 𝓤 (𝓣 .C #transcript·line·line-at) LineAt → Triple 𝓤 (𝓣 .C #transcript·line·place-after) PlaceAfter → Meets 𝓤 H A next.signature (WpFn 𝓤 H (𝓣 .C) (𝓣 .Λ) code.function) (next.spec 𝓤 H A mem run)
+  next-meets : (𝓣 : Tables 𝓤 H) → Triple 𝓤 (𝓣 .C #transcript·line·line-at) LineAt → Triple 𝓤 (𝓣 .C #reader·place-after) PlaceAfter → Meets 𝓤 H A next.signature (WpFn 𝓤 H (𝓣 .C) (𝓣 .Λ) code.function) (next.spec 𝓤 H A mem run)
   next-meets 𝓣 line-known place-known =
       walk-meets 𝓤 H A next.ended stayed W (goes-ref 𝓤 H A W 2 0 tt behind, tt) (next.clauses 𝓤 H A mem run) (WpFn 𝓤 H (𝓣 .C) (𝓣 .Λ) code.function) (WpFn-mono 𝓤 H (W .laws) 𝓣 code.function)
       (walked 𝓤 H A next.ended stayed (next.clauses 𝓤 H A mem run) (WpFn 𝓤 H (𝓣 .C) (𝓣 .Λ) code.function) (λ κs. (ptr-vals, tt)) (λ κs. (mut-tells (named 0) (κs .0) (T.the-row (namedLft 2 1 tt κs)), tt))
@@ -227,4 +227,4 @@ next-spec 𝓤 H 𝓜 𝓖 𝓡 =
     entered 𝓤 H _ (tables 𝓤 H 𝓜 𝓡 code.env .C) (tables 𝓤 H 𝓜 𝓡 code.env .Λ) #reader·Reader·next code.function (code.unfolded 𝓤 H 𝓜 𝓡)
     (next-meets 𝓤 H (𝓖 .A) (givenOf 𝓤 H 𝓜 𝓖) (𝓜 .mem) (𝓡 .run) (tablesOf 𝓤 H 𝓜 (tables 𝓤 H 𝓜 𝓡 code.env))
     (cited 𝓤 H _ 𝓜 𝓡 code.env #transcript·line·line-at line-at-def.routine code.calls-transcript·line·line-at (line-at-thm.met 𝓤 H 𝓜 𝓖 𝓡))
-    (cited 𝓤 H _ 𝓜 𝓡 code.env #transcript·line·place-after place-after-def.routine code.calls-transcript·line·place-after (place-after-thm.met 𝓤 H 𝓜 𝓖 𝓡)))
+    (cited 𝓤 H _ 𝓜 𝓡 code.env #reader·place-after place-after-def.routine code.calls-reader·place-after (place-after-thm.met 𝓤 H 𝓜 𝓖 𝓡)))

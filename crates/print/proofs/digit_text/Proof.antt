@@ -1,7 +1,7 @@
 use borrow.Author.Tests.{lt-ltb, le-ltb}
 use borrow.Author.Needs.{needs}
-use Rattle.transcript.proofs.print.digit_text.Statement.{statement}
-use Rattle.transcript.proofs.print.digit_text.Tie as tie
+use Rattle.print.proofs.digit_text.Statement.{statement}
+use Rattle.print.proofs.digit_text.Tie as tie
 
 cast-value : tie.Need-cast-value
 cast-value c = search needs

@@ -1,6 +1,6 @@
 use borrow.Author.Needs.{needs}
-use Rattle.transcript.proofs.print.printed.Statement.{statement}
-use Rattle.transcript.proofs.print.printed.Tie as tie
+use Rattle.print.proofs.printed.Statement.{statement}
+use Rattle.print.proofs.printed.Tie as tie
 
 digit-text-requires : tie.Need-digit-text-requires
 digit-text-requires c κs = search needs

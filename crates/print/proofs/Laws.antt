@@ -11,11 +11,11 @@ use borrow.Author.Tests.{eqb-true, le-leb, lt-leb}
 use Rattle.base.specs.Word.{highOf, lowOf}
 use Rattle.base.proofs.Fold.{all-at}
 use Rattle.base.specs.Fold.{upTo}
 use Rattle.transcript.specs.Digit.{digitOf, isDigit}
 use Rattle.transcript.specs.Line.{lf, byteOf, lineAt}
-use Rattle.transcript.specs.Print.{digitText, wordText, printed}
+use Rattle.print.specs.Print.{digitText, wordText, printed}
 use Rattle.transcript.specs.declared.line.Line.the-variants.{Event}
 use Rattle.transcript.proofs.digit.Laws.{is-digit}
 
 reads-back : ℕ → Bool
 reads-back value = eqb (digitOf (digitText value)) value

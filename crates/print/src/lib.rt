@@ -1,10 +1,10 @@
 // An event and its answer as text: kind, value, status, reply as eight digits, then LF (paper, "The transcript").
-use crate::digit;
-use crate::line::LF;
 use base::word::BYTE;
+use transcript::digit;
+use transcript::line::LF;
 ghost use mathlib.Core.Path.{_≡_};
 ghost use Prim.Native.Nat.{_<_};
-ghost use Rattle.transcript.specs.Print.{digitText, printed};
+ghost use Rattle.print.specs.Print.{digitText, printed};
 
 // How many bytes an event and its answer have as text.
 pub const PRINTED: usize = 9;

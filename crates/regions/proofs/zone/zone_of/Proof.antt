@@ -21,7 +21,7 @@ loop-holds : tie.Need-loop-holds Inv-loop μ-loop
 loop-holds c = omega arith
 
 returns : tie.Need-returns Inv-loop μ-loop
-returns c = let g = c .before .before .before .geometry-of in let at = c .before .before .before .before .args .at in let w = c .before .before .loop in rw (g .ensures) at (zone-found (g .result) (sound-is _ (g .ensures)) at (w .zone) (c .before .loop-test .taken) (w .inv .1) (omega arith))
+returns c = let g = c .before .before .before .geometry-of in let at = c .before .before .before .before .args .at in let w = c .before .before .loop in rw (g .ensures) at (zone-found (g .result) (sound-is _ (g .ensures)) at (w .zone) (omega arith) (w .inv .1) (omega arith))
 
 add-end : tie.Need-add-end Inv-loop μ-loop
 add-end c = let g = c .before .before .before .geometry-of in let s = sound-is _ (g .ensures) in omega (arith, mul-le-mul-right (g .result .zone) (c .before .loop-test .taken), add-mul (c .before .before .loop .zone) 1 (g .result .zone), one-mul (g .result .zone))

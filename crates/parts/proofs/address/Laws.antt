@@ -1,17 +1,17 @@
 -- Two chips match one address byte exactly when some code is answered by both: a chip answers a run of codes, and two runs
 -- overlap exactly when the later of their first codes lies in both.
 use Prim.Native.Nat.{ℕ, _+_, _/_, _<_, _≤_, _^_}
-use native.Mathlib.Nat.{div-eq-of-lt-le, div-mul-le-self, lt-div-mul-add, le-div-iff-mul-le, div-le-self, mul-le-mul-left, add-mul, one-mul}
+use native.Mathlib.Nat.{div-eq-of-lt-le, div-mul-le-self, lt-div-mul-add, le-div-iff-mul-le, div-le-self, mul-le-mul-left, mul-le-mul-right, mul-comm, add-mul, one-mul}
 use native.Mathlib.Decide.{decLe}
 use native.Mathlib.Omega.{arith}
 use mathlib.Core.Bool.{true}
 use mathlib.Core.Logic.{_↔_}
-use mathlib.Core.Path.{_≡_}
+use mathlib.Core.Path.{_≡_, refl}
 use lib.Dec.{ltb}
 use borrow.Author.Tests.{lt-ltb, ltb-true, eq-eqb, eqb-true}
 use Rattle.base.proofs.Fold.{and-left, and-right, and-both}
 use Rattle.parts.specs.declared.part.Geometry.{Geometry}
-use Rattle.parts.specs.Part.{Sound}
+use Rattle.parts.specs.Part.{geometry24CSM01, geometry24CS32, Sound}
 use Rattle.parts.specs.Address.{codesOf, answers, firstCode, shareAddress}
 
 module _ (g : Geometry) (sound : Sound g) where
@@ -24,15 +24,35 @@ module _ (g : Geometry) (sound : Sound g) where
       let few : codesOf g ≤ 8 = div-le-self 8 (g .straps) in
       omega (arith, mul-le-mul-left strap few)
 
-  -- the codes that a chip answers: from its first, as many as its part has
-  pub in-run : (strap code : ℕ) → answers g strap code ≡ true → (firstCode g strap ≤ code) × (code < firstCode g strap + codesOf g)
+  -- the codes that a chip answers are a run: from its first, as many as its part has
+  in-run : (strap code : ℕ) → answers g strap code ≡ true → (firstCode g strap ≤ code) × (code < firstCode g strap + codesOf g)
   in-run strap code yes-code =
       let is : code / codesOf g ≡ strap = eqb-true _ _ yes-code in
       rw (← is) (div-mul-le-self code (codesOf g), lt-div-mul-add codes-some)
 
-  pub run-in : (strap code : ℕ) → firstCode g strap ≤ code → code < firstCode g strap + codesOf g → answers g strap code ≡ true
+  run-in : (strap code : ℕ) → firstCode g strap ≤ code → code < firstCode g strap + codesOf g → answers g strap code ≡ true
   run-in strap code from to =
       eq-eqb _ _ (div-eq-of-lt-le {k = strap} (codesOf g) {m = code} from (omega (arith, add-mul strap 1 (codesOf g), one-mul (codesOf g))))
+
+  pub answers-exactly-when : (strap code : ℕ) → (answers g strap code ≡ true) ↔ ((firstCode g strap ≤ code) × (code < firstCode g strap + codesOf g))
+  answers-exactly-when strap code = (in-run strap code, λ run. run-in strap code (run .0) (run .1))
+
+  -- a strap in its part's range answers codes of three bits alone
+  pub answers-below : (strap code : ℕ) → strap < g .straps → answers g strap code ≡ true → code < 8
+  answers-below strap code in-range yes-code =
+      let run : (firstCode g strap ≤ code) × (code < firstCode g strap + codesOf g) = in-run strap code yes-code in
+      omega (
+        arith,
+        mul-le-mul-right (codesOf g) in-range,
+        add-mul strap 1 (codesOf g),
+        one-mul (codesOf g),
+        mul-comm (g .straps) (codesOf g),
+        div-mul-le-self 8 (g .straps),
+      )
+
+-- the 24CSM01 at strap s answers 2s and 2s + 1, the 24CS32 at strap t answers t
+pub codes-each : (codesOf geometry24CSM01 ≡ 2) × (codesOf geometry24CS32 ≡ 1)
+codes-each = (refl, refl)
 
 abbrev pub Both : Geometry → ℕ → Geometry → ℕ → ℕ → Type 0
 Both g strap h beside code = (answers g strap code ≡ true) × (answers h beside code ≡ true)

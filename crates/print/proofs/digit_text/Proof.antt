@@ -1,3 +1,4 @@
+-- The test is that of the definition, and a value below 16 keeps the sums in a byte.
 use borrow.Author.Tests.{lt-ltb, le-ltb}
 use borrow.Author.Needs.{needs}
 use Rattle.print.proofs.digit_text.Statement.{statement}

@@ -1,3 +1,4 @@
+-- Each digit is what `digit_text` says of a half of one of the four bytes.
 use borrow.Author.Needs.{needs}
 use Rattle.print.proofs.printed.Statement.{statement}
 use Rattle.print.proofs.printed.Tie as tie

@@ -28,6 +28,10 @@ module _ (g : Geometry) (sound : Sound g) (at : ℕ) where
   pub place-below : placeOf g at < g .page
   place-below = mod-lt at (sound .page-some)
 
+  -- a place is the index of a byte in a load of the largest page
+  pub place-small : placeOf g at < 256
+  place-small = omega (arith, place-below, sound .page-most)
+
   pub next-place-below : nextIn (g .page) (placeOf g at) < g .page
   next-place-below = next-below (g .page) (placeOf g at) (sound .page-some)
 

@@ -1,3 +1,4 @@
+-- The quotient is taken by how many codes the part answers, which is not 0.
 use Rattle.parts.proofs.part.Laws.{sound-of}
 use Rattle.parts.proofs.address.Laws.{codes-some}
 use borrow.Author.Needs.{needs}

@@ -1,3 +1,4 @@
+-- A sound part has straps to share the codes out over.
 use Rattle.parts.proofs.part.Laws.{sound-is}
 use borrow.Author.Needs.{needs}
 use Rattle.parts.proofs.address.codes_of.Statement.{statement}

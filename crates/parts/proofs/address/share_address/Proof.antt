@@ -1,3 +1,4 @@
+-- The two runs of codes end below 2 ^ 16 whatever the straps, so no sum wraps; the two tests are those of the definition.
 use Rattle.parts.proofs.part.Laws.{sound-of}
 use Rattle.parts.proofs.address.Laws.{codes-end}
 use native.Mathlib.Omega.{arith}

@@ -1,3 +1,4 @@
+-- The constants of the part that the test picks are the figures of the definition.
 use Rattle.parts.specs.Part.{geometryOf}
 use borrow.Author.Tests.{eq-eqb, ne-eqb}
 use Rattle.parts.proofs.part.geometry_of.Statement.{statement}

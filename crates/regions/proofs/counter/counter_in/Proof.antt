@@ -1,3 +1,4 @@
+-- A remainder by the size; by 0 the library gives the number itself, and so does the code.
 use native.Mathlib.Nat.{mod-zero}
 use mathlib.Core.Path.{ap, sym, _∙_}
 use Prim.Native.Nat.{ℕ, _%_}

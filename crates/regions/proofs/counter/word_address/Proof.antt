@@ -1,3 +1,4 @@
+-- The two bytes make the word, and A16 adds its worth.
 use Prim.Native.Nat.{ℕ, _+_}
 use mathlib.Core.Path.{ap}
 use borrow.Author.Needs.{needs}

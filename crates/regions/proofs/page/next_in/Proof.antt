@@ -1,3 +1,4 @@
+-- The two tests together are that of the definition: an address past the region has no next one in it.
 use native.Mathlib.Omega.{arith}
 use borrow.Author.Tests.{lt-ltb, le-ltb}
 use Prim.Native.Nat.{_+_, _≤_}

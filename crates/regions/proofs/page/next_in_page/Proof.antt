@@ -1,3 +1,4 @@
+-- The page of a 32-bit address ends at 2 ^ 32 or below, and the next place lies in the page, so the sum does not wrap.
 use Rattle.parts.proofs.part.Laws.{sound-is}
 use Rattle.regions.proofs.page.Laws.{page-ends, next-place-below}
 use native.Mathlib.Omega.{arith}

@@ -1,3 +1,4 @@
+-- A sound page is not empty, so there is a remainder.
 use Rattle.parts.proofs.part.Laws.{sound-is}
 use borrow.Author.Needs.{needs}
 use Rattle.regions.proofs.page.place_of.Statement.{statement}

@@ -1,3 +1,5 @@
+-- The walk: `end` is where the range `zone` ends, and the address lies at or behind its start. It stops in the range that holds
+-- the address, whose number is the quotient, or behind the eighth range, where there is no zone.
 use Rattle.regions.proofs.zone.Laws.{zone-found, zone-none}
 use Rattle.parts.proofs.part.Laws.{sound-is}
 use borrow.Author.Needs.{needs}

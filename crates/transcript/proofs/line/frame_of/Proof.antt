@@ -1,3 +1,4 @@
+-- At each `return` the tests that led there say which bytes are digits; where all four are, no product of them wraps.
 use Rattle.transcript.proofs.digit.Laws.{is-digit, no-digit}
 use borrow.Author.Tests.{eq-eqb, ne-eqb}
 use borrow.Author.Needs.{needs}

@@ -1,3 +1,4 @@
+-- Where five bytes are left every index is in the text; what they make is what `frame_of` says.
 use lib.ListN.{length}
 use Prim.Native.Nat.{_+_, _≤_, _<_}
 use native.Mathlib.Omega.{arith}

@@ -33,8 +33,9 @@ pub record Sound (g : Geometry) : Type 0 where
   pub zone-whole : g .zone / g .page * g .page ≡ g .zone
   pub zone-some : 0 < g .zone
   pub zone-eight : 8 * g .zone ≡ g .array
+  -- sums of addresses of the array fit 32 bits
   pub array-most : g .array ≤ 2 ^ 24
   pub security-some : 0 < g .security
-  -- there is a code for each strap, of which there are eight (`Address`)
+  -- each strap has a code of its own, and there are eight codes (`Address`)
   pub straps-some : 0 < g .straps
   pub straps-most : g .straps ≤ 8

@@ -12,15 +12,18 @@ pub const PRINTED: usize = 9;
 // How many digits there are, as wide as a word.
 const DIGITS: u16 = digit::DIGITS as u16;
 
+// From this value on a digit is a letter.
+const LETTERS: u8 = 10;
+
 fn digit_text(value: u16) -> u8
     requires { ⌜ value < 16 ⌝ }
     ensures { λ r. ⌜ r ≡ digitText value ⌝ }
 {
     let value = value as u8;
-    if value < 10 {
+    if value < LETTERS {
         b'0' + value
     } else {
-        b'A' - 10 + value
+        b'A' - LETTERS + value
     }
 }
 

@@ -2,9 +2,17 @@
 use Rattle.parts.proofs.part.Laws.{sound-of}
 use Rattle.parts.proofs.address.Laws.{codes-end}
 use native.Mathlib.Omega.{arith}
+use Prim.Native.Nat.{_+_, _*_, _<_, _^_}
 use borrow.Author.Needs.{needs}
 use Rattle.parts.proofs.address.share_address.Statement.{statement}
 use Rattle.parts.proofs.address.share_address.Tie as tie
+
+-- where the two runs end
+ends : (c : tie.After-codes-of2) → c .before .before .args .strap * c .before .codes-of .result + c .before .codes-of .result < 2 ^ 16
+ends c = rw (c .before .codes-of .ensures) (codes-end _ (sound-of (c .before .before .args .part)) _ (c .before .before .fits .strap .fits))
+
+other-ends : (c : tie.After-codes-of2) → c .before .before .args .beside * c .codes-of2 .result + c .codes-of2 .result < 2 ^ 16
+other-ends c = rw (c .codes-of2 .ensures) (codes-end _ (sound-of (c .before .before .args .other)) _ (c .before .before .fits .beside .fits))
 
 codes-of-requires : tie.Need-codes-of-requires
 codes-of-requires c κs = search needs
@@ -19,16 +27,16 @@ cast-others : tie.Need-cast-others
 cast-others c = search needs
 
 mul-first : tie.Need-mul-first
-mul-first c = let a = c .before .before .args in let f = c .before .before .fits in rw (c .before .codes-of .ensures) (omega (arith, codes-end _ (sound-of (a .part)) (a .strap) (f .strap .fits)))
+mul-first c = omega (arith, ends c)
 
 mul-second : tie.Need-mul-second
-mul-second c = let a = c .before .before .args in let f = c .before .before .fits in rw (c .codes-of2 .ensures) (omega (arith, codes-end _ (sound-of (a .other)) (a .beside) (f .beside .fits)))
+mul-second c = omega (arith, other-ends c)
 
 add-and : tie.Need-add-and
-add-and c = let a = c .before .before .args in let f = c .before .before .fits in rw (c .codes-of2 .ensures) (omega (arith, codes-end _ (sound-of (a .other)) (a .beside) (f .beside .fits)))
+add-and c = omega (arith, other-ends c)
 
 add-and-2 : tie.Need-add-and-2
-add-and-2 c = let a = c .before .before .args in let f = c .before .before .fits in rw (c .before .codes-of .ensures) (omega (arith, codes-end _ (sound-of (a .part)) (a .strap) (f .strap .fits)))
+add-and-2 c = omega (arith, ends c)
 
 and-requires : tie.Need-and-requires
 and-requires c κs = search needs

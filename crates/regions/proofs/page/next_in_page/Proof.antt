@@ -19,10 +19,14 @@ div-result : tie.Need-div-result
 div-result c = sound-is _ (c .before .geometry-of .ensures) .page-some
 
 mul-result : tie.Need-mul-result
-mul-result c = let s = sound-is _ (c .before .geometry-of .ensures) in omega (arith, page-ends _ s (c .before .before .args .at) (c .before .before .fits .at .fits))
+mul-result c =
+    let s = sound-is _ (c .before .geometry-of .ensures) in
+    omega (arith, page-ends _ s (c .before .before .args .at) (c .before .before .fits .at .fits))
 
 add-result : tie.Need-add-result
-add-result c = let s = sound-is _ (c .before .geometry-of .ensures) in omega (arith, c .next-in .ensures, page-ends _ s (c .before .before .args .at) (c .before .before .fits .at .fits), next-place-below _ s (c .before .before .args .at))
+add-result c =
+    let s = sound-is _ (c .before .geometry-of .ensures) in
+    omega (arith, c .next-in .ensures, page-ends _ s (c .before .before .args .at) (c .before .before .fits .at .fits), next-place-below _ s (c .before .before .args .at))
 
 returns : tie.Need-returns
 returns c = rw (c .next-in .ensures, c .before .geometry-of .ensures)

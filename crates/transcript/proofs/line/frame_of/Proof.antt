@@ -1,9 +1,25 @@
 -- At each `return` the tests that led there say which bytes are digits; where all four are, no product of them wraps.
+use mathlib.Core.Bool.{true}
+use mathlib.Core.Path.{_≡_}
+use Rattle.transcript.specs.Digit.{isDigit}
 use Rattle.transcript.proofs.digit.Laws.{is-digit, no-digit}
 use borrow.Author.Tests.{eq-eqb, ne-eqb}
 use borrow.Author.Needs.{needs}
 use Rattle.transcript.proofs.line.frame_of.Statement.{statement}
 use Rattle.transcript.proofs.line.frame_of.Tie as tie
+
+-- past each test its byte is a digit
+first : (c : tie.Else1) → isDigit (c .before .before .before .before .before .args .a) ≡ true
+first c = is-digit _ (c .before .before .before .before .digit-of .ensures) (c .if1 .left)
+
+second : (c : tie.Else2) → isDigit (c .before .before .before .before .before .before .args .b) ≡ true
+second c = is-digit _ (c .before .before .before .before .digit-of2 .ensures) (c .if2 .left)
+
+third : (c : tie.Else3) → isDigit (c .before .before .before .before .before .before .before .args .c) ≡ true
+third c = is-digit _ (c .before .before .before .before .digit-of3 .ensures) (c .if3 .left)
+
+fourth : (c : tie.Else4) → isDigit (c .before .before .before .before .before .before .before .before .args .d) ≡ true
+fourth c = is-digit _ (c .before .before .before .before .digit-of4 .ensures) (c .if4 .left)
 
 digit-of-requires : tie.Need-digit-of-requires
 digit-of-requires c κs = search needs
@@ -21,13 +37,13 @@ returns : tie.Need-returns
 returns c = simp (no-digit _ (c .before .before .before .before .digit-of .ensures) (c .if1 .taken))
 
 returns-2 : tie.Need-returns-2
-returns-2 c = simp (is-digit _ (c .before .before .before .before .before .digit-of .ensures) (c .before .if1 .left), no-digit _ (c .before .before .before .before .digit-of2 .ensures) (c .if2 .taken))
+returns-2 c = simp (first (c .before), no-digit _ (c .before .before .before .before .digit-of2 .ensures) (c .if2 .taken))
 
 returns-3 : tie.Need-returns-3
-returns-3 c = simp (is-digit _ (c .before .before .before .before .before .before .digit-of .ensures) (c .before .before .if1 .left), is-digit _ (c .before .before .before .before .before .digit-of2 .ensures) (c .before .if2 .left), no-digit _ (c .before .before .before .before .digit-of3 .ensures) (c .if3 .taken))
+returns-3 c = simp (first (c .before .before), second (c .before), no-digit _ (c .before .before .before .before .digit-of3 .ensures) (c .if3 .taken))
 
 returns-4 : tie.Need-returns-4
-returns-4 c = simp (is-digit _ (c .before .before .before .before .before .before .before .digit-of .ensures) (c .before .before .before .if1 .left), is-digit _ (c .before .before .before .before .before .before .digit-of2 .ensures) (c .before .before .if2 .left), is-digit _ (c .before .before .before .before .before .digit-of3 .ensures) (c .before .if3 .left), no-digit _ (c .before .before .before .before .digit-of4 .ensures) (c .if4 .taken))
+returns-4 c = simp (first (c .before .before .before), second (c .before .before), third (c .before), no-digit _ (c .before .before .before .before .digit-of4 .ensures) (c .if4 .taken))
 
 mul-word-of : tie.Need-mul-word-of
 mul-word-of c = search needs
@@ -45,10 +61,10 @@ word-of-requires : tie.Need-word-of-requires
 word-of-requires c κs = search needs
 
 returns-5 : tie.Need-returns-5
-returns-5 c = simp (is-digit _ (c .before .before .before .before .before .before .before .before .before .digit-of .ensures) (c .before .before .before .before .before .if1 .left), is-digit _ (c .before .before .before .before .before .before .before .before .digit-of2 .ensures) (c .before .before .before .before .if2 .left), is-digit _ (c .before .before .before .before .before .before .before .digit-of3 .ensures) (c .before .before .before .if3 .left), is-digit _ (c .before .before .before .before .before .before .digit-of4 .ensures) (c .before .before .if4 .left), eq-eqb _ _ (c .before .if5 .taken)) (cc)
+returns-5 c = simp (first (c .before .before .before .before .before), second (c .before .before .before .before), third (c .before .before .before), fourth (c .before .before), eq-eqb _ _ (c .before .if5 .taken)) (cc)
 
 returns-6 : tie.Need-returns-6
-returns-6 c = simp (is-digit _ (c .before .before .before .before .before .before .before .before .digit-of .ensures) (c .before .before .before .before .if1 .left), is-digit _ (c .before .before .before .before .before .before .before .digit-of2 .ensures) (c .before .before .before .if2 .left), is-digit _ (c .before .before .before .before .before .before .digit-of3 .ensures) (c .before .before .if3 .left), is-digit _ (c .before .before .before .before .before .digit-of4 .ensures) (c .before .if4 .left), ne-eqb _ _ (c .if5 .left))
+returns-6 c = simp (first (c .before .before .before .before), second (c .before .before .before), third (c .before .before), fourth (c .before), ne-eqb _ _ (c .if5 .left))
 
 pub frame-of-spec : {M : Type 1} → statement M
 frame-of-spec =

@@ -14,7 +14,10 @@ sub-if2 : tie.Need-sub-if2
 sub-if2 c = search needs
 
 returns-2 : tie.Need-returns-2
-returns-2 c = let a = c .before .before .before .args in let short : length (a .text .now) < a .at + 5 = omega arith in simp (lt-leb _ _ (c .before .if1 .left), lt-leb _ _ short)
+returns-2 c =
+    let a = c .before .before .before .args in
+    let short : length (a .text .now) < a .at + 5 = omega arith in
+    simp (lt-leb _ _ (c .before .if1 .left), lt-leb _ _ short)
 
 shared-slice-read-frame-of : tie.Need-shared-slice-read-frame-of
 shared-slice-read-frame-of c = search needs
@@ -50,7 +53,10 @@ frame-of-requires : tie.Need-frame-of-requires
 frame-of-requires c κs = search needs
 
 returns-3 : tie.Need-returns-3
-returns-3 c = let a = c .before .before .before .before .before .before .before .before .before .args in let room : a .at + 5 ≤ length (a .text .now) = omega arith in rw (lt-leb _ _ (c .before .before .before .before .before .before .before .if1 .left), le-leb _ _ room) (c .frame-of .ensures)
+returns-3 c =
+    let a = c .before .before .before .before .before .before .before .before .before .args in
+    let room : a .at + 5 ≤ length (a .text .now) = omega arith in
+    rw (lt-leb _ _ (c .before .before .before .before .before .before .before .if1 .left), le-leb _ _ room) (c .frame-of .ensures)
 
 pub line-at-spec : {M : Type 1} → statement M
 line-at-spec =

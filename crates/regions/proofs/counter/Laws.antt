@@ -1,14 +1,23 @@
--- Counters, over any size of region: a word address sets one that lies in the region.
+-- Counters: a word address sets one that lies in its region, whatever the region's size, and both regions of a sound part have one.
 use Prim.Native.Nat.{ℕ, _+_, _%_, _<_, _≤_}
 use native.Mathlib.Nat.{mod-lt, mod-eq-of-lt, add-mod, mod-mod, zero-add}
 use native.Mathlib.Omega.{arith}
 use mathlib.Core.Bool.{Bool, true, false}
 use mathlib.Core.Path.{_≡_, _∙_, refl, ap}
 use Rattle.base.specs.Word.{wordOf}
+use Rattle.parts.specs.declared.part.Geometry.{Geometry}
+use Rattle.parts.specs.Part.{Sound}
 use Rattle.regions.specs.Counter.{wordAddress, counterIn}
 
 pub counter-below : (size : ℕ) (a16 : Bool) (high low : ℕ) → 0 < size → counterIn size a16 high low < size
 counter-below size a16 high low some = mod-lt (wordAddress a16 high low) some
+
+module _ (g : Geometry) (sound : Sound g) (a16 : Bool) (high low : ℕ) where
+  pub array-counter-below : counterIn (g .array) a16 high low < g .array
+  array-counter-below = counter-below (g .array) a16 high low (omega (arith, sound .zone-eight, sound .zone-some))
+
+  pub security-counter-below : counterIn (g .security) a16 high low < g .security
+  security-counter-below = counter-below (g .security) a16 high low (sound .security-some)
 
 -- a region that holds all 17 bits is addressed by A16 and 16 bits
 pub all-bits-count : (size : ℕ) (a16 : Bool) (high low : ℕ) → 131072 ≤ size → high < 256 → low < 256 → counterIn size a16 high low ≡ wordAddress a16 high low

@@ -1,13 +1,19 @@
 -- Laws of a store and its spans, over any element: lengths, and what a span holds after an exchange there, before it or behind it.
-use Prim.Native.Nat.{ℕ, _+_, _<_, _≤_}
+use Prim.Native.Nat.{ℕ, zero, suc, _+_, _<_, _≤_}
 use native.Mathlib.Omega.{arith}
-use mathlib.Core.List.{List, _++_, append-assoc}
+use mathlib.Core.List.{List, [], _∷_, _++_, append-assoc}
 use mathlib.Core.Path.{_≡_, _∙_, refl, sym, ap}
 use lib.ListN.{length, take, drop, getD, length-append, length-take, length-drop, take-append-drop}
 use lib.Seq.{length-take-le, take-at, drop-at, take-append-le, drop-append-le, drop-append-add, drop-drop, getD-take, getD-drop}
 use Rattle.base.specs.Store.{span, patched}
 
 module _ {A : Type 0} where
+  -- inside a list no default is read
+  pub at-any : (xs : List A) (i : ℕ) (d e : A) → i < length xs → getD xs i d ≡ getD xs i e
+  at-any [] i d e inside = absurd (omega arith)
+  at-any (x ∷ xs) zero d e inside = refl
+  at-any (x ∷ xs) (suc i) d e inside = at-any xs i d e (omega arith)
+
   -- a span that fits is as long as was asked
   pub span-length : (at n : ℕ) (store : List A) → at + n ≤ length store → length (span at n store) ≡ n
   span-length at n store fits = simp (length-take, length-drop) (omega arith)

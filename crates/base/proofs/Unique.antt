@@ -6,6 +6,8 @@ use contract.Lifetimes.{Lfts}
 use borrow.Fn.Kind.{PK, RK}
 use borrow.Fn.Kinds.{Out, Dens, resT, endedOf}
 use denote.Triple.Clauses.{AtExit}
+use Rattle.base.proofs.bit.bit_of.Kinds as bit-of-kinds
+use Rattle.base.proofs.bit.bit_of.Reads as bit-of-reads
 use Rattle.base.proofs.test.and.Kinds as and-kinds
 use Rattle.base.proofs.test.and.Reads as and-reads
 use Rattle.base.proofs.test.or.Kinds as or-kinds
@@ -21,9 +23,20 @@ Unique {n} ps r ensures =
     → ensures κs args y at-y
     → x ≡ y
 
+-- where stores are lent by `&mut`: `seen` is what an outcome shows, the result and each lent store as the function returns
+abbrev pub UniqueOutcome : {n : ℕ} (ps : List (PK n)) (r : RK n) (A : Type 0) → ((κs : Lfts n) → resT r κs .Denot → AtExit (endedOf n ps r) κs → A) → Out n ps r → Type 0
+UniqueOutcome {n} ps r A seen ensures =
+    (κs : Lfts n) (args : Dens κs ps) (x y : resT r κs .Denot) (at-x at-y : AtExit (endedOf n ps r) κs)
+    → ensures κs args x at-x
+    → ensures κs args y at-y
+    → seen κs x at-x ≡ seen κs y at-y
+
 -- what equals one thing is equal
 pub same : {A : Type 0} {x y z : A} → x ≡ z → y ≡ z → x ≡ y
 same p q = p ∙ sym q
+
+pub bit-of-unique : Unique bit-of-kinds.ps bit-of-kinds.r bit-of-reads.Post
+bit-of-unique κs args x y at-x at-y = same
 
 pub and-unique : Unique and-kinds.ps and-kinds.r and-reads.Post
 and-unique κs args x y at-x at-y = same

@@ -1,3 +1,4 @@
 pub mod Fold
 pub mod Store
+pub mod Bit
 pub mod Word

@@ -1,3 +1,4 @@
 // What the other crates share. Nothing about EEPROMs.
+pub mod bit;
 pub mod test;
 pub mod word;

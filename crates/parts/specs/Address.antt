@@ -1,5 +1,5 @@
 -- The code of an address byte is the three bits between 1010 or 1011 and the read bit (paper, "Address byte").
-use Prim.Native.Nat.{ℕ, _+_, _*_, _/_}
+use Prim.Native.Nat.{ℕ, _+_, _*_, _/_, _%_}
 use mathlib.Core.Bool.{Bool, _&&_}
 use lib.Dec.{ltb, eqb}
 use Rattle.parts.specs.declared.part.Geometry.{Geometry}
@@ -11,6 +11,10 @@ codesOf g = 8 / g .straps
 -- a chip at a strap answers a code
 abbrev pub answers : Geometry → ℕ → ℕ → Bool
 answers g strap code = eqb (code / codesOf g) strap
+
+-- A16 in a code: which of its chip's two codes it is, so never set for the 24CS32 (sheets, Table 3-1)
+abbrev pub a16Of : Geometry → ℕ → Bool
+a16Of g code = eqb (code % codesOf g) 1
 
 -- the first code that a chip at a strap answers
 abbrev pub firstCode : Geometry → ℕ → ℕ

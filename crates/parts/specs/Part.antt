@@ -1,9 +1,10 @@
 -- The parts, their figures, and what makes figures sound (paper, the table of "What the bench plays"; sheets, Table 11-1).
-use Prim.Native.Nat.{ℕ, _*_, _/_, _<_, _≤_, _^_}
+use Prim.Native.Nat.{ℕ, _+_, _*_, _/_, _<_, _≤_, _^_}
 use mathlib.Core.Bool.{Bool, cond, _||_}
 use mathlib.Core.List.{[], _∷_}
 use mathlib.Core.Path.{_≡_}
 use lib.Dec.{eqb}
+use lib.ListN.{length}
 use Rattle.parts.specs.declared.part.Geometry.{Geometry}
 
 -- | part | array | page | zone | security register | read-only half | ID page | straps |, and the ID bytes
@@ -35,7 +36,12 @@ pub record Sound (g : Geometry) : Type 0 where
   pub zone-eight : 8 * g .zone ≡ g .array
   -- sums of addresses of the array fit 32 bits
   pub array-most : g .array ≤ 2 ^ 24
+  -- a security register is its read-only half and its ID page
   pub security-some : 0 < g .security
+  pub security-halves : g .readonly + g .idpage ≡ g .security
+  pub security-most : g .security ≤ 2 ^ 16
   -- each strap has a code of its own, and there are eight codes (`Address`)
   pub straps-some : 0 < g .straps
   pub straps-most : g .straps ≤ 8
+  -- the three ID bytes
+  pub id-three : length (g .id) ≡ 3

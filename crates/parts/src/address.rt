@@ -2,7 +2,7 @@
 use crate::part::geometry_of;
 ghost use mathlib.Core.Path.{_≡_};
 ghost use Rattle.parts.specs.Part.{geometryOf};
-ghost use Rattle.parts.specs.Address.{codesOf, answers, shareAddress};
+ghost use Rattle.parts.specs.Address.{codesOf, answers, a16Of, shareAddress};
 
 // Codes that three bits make.
 const CODES: u8 = 8;
@@ -19,6 +19,13 @@ pub fn answers(part: u8, strap: u8, code: u8) -> bool
     ensures { λ r. ⌜ r ≡ answers (geometryOf part) strap code ⌝ }
 {
     code / codes_of(part) == strap
+}
+
+// Whether A16 is set in a code: it is the last bit where a chip answers two codes, and no bit where it answers one.
+pub fn a16_of(part: u8, code: u8) -> bool
+    ensures { λ r. ⌜ r ≡ a16Of (geometryOf part) code ⌝ }
+{
+    code % codes_of(part) == 1
 }
 
 // Whether two chips match one address byte.

@@ -2,7 +2,7 @@
 use parts::part::geometry_of;
 ghost use mathlib.Core.Path.{_≡_};
 ghost use Rattle.parts.specs.Part.{geometryOf};
-ghost use Rattle.regions.specs.Page.{pageOf, placeOf, nextIn, nextInPage};
+ghost use Rattle.regions.specs.Page.{pageOf, placeOf, nextIn, nextInPage, inIdPage};
 
 pub fn page_of(part: u8, at: u32) -> u32
     ensures { λ r. ⌜ r ≡ pageOf (geometryOf part) at ⌝ }
@@ -35,4 +35,12 @@ pub fn next_in_page(part: u8, at: u32) -> u32
     let page = geometry_of(part).page;
     let next = next_in(page, at % page);
     at / page * page + next
+}
+
+// Whether an address of the security register lies in the ID page, which follows the read-only half (sheets, Table 10-1).
+pub fn in_id_page(part: u8, at: u32) -> bool
+    ensures { λ r. ⌜ r ≡ inIdPage (geometryOf part) at ⌝ }
+{
+    let g = geometry_of(part);
+    base::test::and(g.readonly <= at, at < g.readonly + g.idpage)
 }

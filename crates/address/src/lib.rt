@@ -1,0 +1,117 @@
+// An address byte, and the byte after F8h (paper, "Address byte" and "Device ID"; sheets 3.3 and 11.0).
+use control::Answered;
+use control::Control;
+use control::phase::Phase;
+use control::phase::Shown;
+use control::phase::Source;
+use control::phase::Word;
+use parts::address::a16_of;
+use parts::address::answers;
+ghost use mathlib.Core.Path.{_≡_};
+ghost use Rattle.parts.specs.Part.{geometryOf};
+ghost use Rattle.address.specs.Address.{callOf, sourceOf, takeAddress, takeIdentify, takeChoice};
+
+// The device type identifiers, 1010 for the array and 1011 for the registers, and the two host codes of the Device ID.
+const ARRAY: u8 = 0b1010;
+
+const REGISTERS: u8 = 0b1011;
+
+const F8: u8 = 0xF8;
+
+const F9: u8 = 0xF9;
+
+// What an address byte asks of a chip. A write to the array carries A16.
+pub enum Call {
+    ReadArray,
+    WriteArray(bool),
+    ReadRegister,
+    WriteRegister,
+    HostF8,
+    HostF9,
+    Nobody,
+}
+
+pub fn call_of(part: u8, strap: u8, byte: u8) -> Call
+    ensures { λ r. ⌜ r ≡ callOf (geometryOf part) strap byte ⌝ }
+{
+    if byte == F8 {
+        return Call::HostF8;
+    }
+    if byte == F9 {
+        return Call::HostF9;
+    }
+    let code = byte / 2 % 8;
+    if !answers(part, strap, code) {
+        return Call::Nobody;
+    }
+    if byte / 16 == ARRAY {
+        if byte % 2 == 1 {
+            return Call::ReadArray;
+        }
+        return Call::WriteArray(a16_of(part, code));
+    }
+    if byte / 16 == REGISTERS {
+        if byte % 2 == 1 {
+            return Call::ReadRegister;
+        }
+        return Call::WriteRegister;
+    }
+    Call::Nobody
+}
+
+// Where a 1011 read comes from; the configuration register starts at byte 0.
+fn source_of(shown: Shown) -> Source
+    ensures { λ r. ⌜ r ≡ sourceOf shown ⌝ }
+{
+    match shown {
+        Shown::ShowsSecurity => Source::FromSecurity,
+        Shown::ShowsConfiguration => Source::FromConfiguration(false),
+        Shown::ShowsNothing => Source::FromNothing,
+    }
+}
+
+// F9h is for the chosen chip, which stays chosen.
+fn take_identify(c: Control) -> Answered
+    ensures { λ r. ⌜ r ≡ takeIdentify c ⌝ }
+{
+    if c.chosen {
+        c.acked(Phase::SendsByte(Source::FromId(0)))
+    } else {
+        c.silent(Phase::Standby)
+    }
+}
+
+// Any address byte but F9h drops the choice.
+pub fn take_address(c: Control, byte: u8) -> Answered
+    ensures { λ r. ⌜ r ≡ takeAddress c byte ⌝ }
+{
+    let shown = c.shown;
+    let dropped = c.choosing(false);
+    let call = call_of(c.part, c.strap, byte);
+    match call {
+        Call::ReadArray => dropped.acked(Phase::SendsByte(Source::FromArray)),
+        Call::WriteArray(a16) => dropped.acked(Phase::AwaitsWord(Word::ArrayFirst(a16))),
+        Call::ReadRegister => dropped.acked(Phase::SendsByte(source_of(shown))),
+        Call::WriteRegister => dropped.acked(Phase::AwaitsWord(Word::RegisterFirst)),
+        Call::HostF8 => dropped.acked(Phase::AwaitsChoice),
+        Call::HostF9 => take_identify(c),
+        Call::Nobody => dropped.silent(Phase::Standby),
+    }
+}
+
+// The byte after F8h chooses the chip whose 1010 address it is, for reading or writing.
+pub fn take_choice(c: Control, byte: u8) -> Answered
+    ensures { λ r. ⌜ r ≡ takeChoice c byte ⌝ }
+{
+    let chosen = c.choosing(true);
+    let call = call_of(c.part, c.strap, byte);
+    match call {
+        Call::ReadArray => chosen.acked(Phase::Standby),
+        Call::WriteArray(_) => chosen.acked(Phase::Standby),
+        Call::ReadRegister => c.silent(Phase::Standby),
+        Call::WriteRegister => c.silent(Phase::Standby),
+        Call::HostF8 => c.silent(Phase::Standby),
+        Call::HostF9 => c.silent(Phase::Standby),
+        Call::Nobody => c.silent(Phase::Standby),
+    }
+}

@@ -1,0 +1,23 @@
+use mathlib.Core.Path.{_∙_, sym}
+use borrow.Author.Needs.{needs}
+use Rattle.chip.proofs.Chip.start.Statement.{statement}
+use Rattle.chip.proofs.Chip.start.Tie as tie
+
+is-busy-requires : tie.Need-is-busy-requires
+is-busy-requires c κs = search needs
+
+returns : tie.Need-returns
+returns c = search needs
+
+in-phase-requires : tie.Need-in-phase-requires
+in-phase-requires c κs = search needs
+
+emptied-requires : tie.Need-emptied-requires
+emptied-requires c κs = search needs
+
+returns-2 : tie.Need-returns-2
+returns-2 c = rw (sym (c .before .before .before .is-busy .ensures) ∙ c .before .before .if1 .left, c .emptied .ensures, c .before .in-phase .ensures)
+
+pub start-spec : {M : Type 1} → statement M
+start-spec =
+    tie.close (tie.spec is-busy-requires returns in-phase-requires emptied-requires returns-2)

@@ -1,0 +1,32 @@
+use borrow.Author.Needs.{needs}
+use Rattle.chip.proofs.powered_up.Statement.{statement}
+use Rattle.chip.proofs.powered_up.Tie as tie
+
+choosing-requires : tie.Need-choosing-requires
+choosing-requires c κs = search needs
+
+array-at-requires : tie.Need-array-at-requires
+array-at-requires c κs = search needs
+
+security-at-requires : tie.Need-security-at-requires
+security-at-requires c κs = search needs
+
+showing-requires : tie.Need-showing-requires
+showing-requires c κs = search needs
+
+in-phase-requires : tie.Need-in-phase-requires
+in-phase-requires c κs = search needs
+
+returns : tie.Need-returns
+returns c = rw (c .in-phase .ensures, c .before .showing .ensures, c .before .before .security-at .ensures, c .before .before .before .array-at .ensures, c .before .before .before .before .choosing .ensures)
+
+pub powered-up-spec : {M : Type 1} → statement M
+powered-up-spec =
+    tie.close
+    (tie.spec
+    choosing-requires
+    array-at-requires
+    security-at-requires
+    showing-requires
+    in-phase-requires
+    returns)

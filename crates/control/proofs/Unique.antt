@@ -1,0 +1,67 @@
+-- Every public contract of this crate leaves one result: any two that it allows are equal.
+use Rattle.base.proofs.Unique.{Unique, same}
+use Rattle.control.proofs.Control.fresh.Kinds as fresh-kinds
+use Rattle.control.proofs.Control.fresh.Reads as fresh-reads
+use Rattle.control.proofs.Control.in_phase.Kinds as in-phase-kinds
+use Rattle.control.proofs.Control.in_phase.Reads as in-phase-reads
+use Rattle.control.proofs.Control.showing.Kinds as showing-kinds
+use Rattle.control.proofs.Control.showing.Reads as showing-reads
+use Rattle.control.proofs.Control.choosing.Kinds as choosing-kinds
+use Rattle.control.proofs.Control.choosing.Reads as choosing-reads
+use Rattle.control.proofs.Control.array_at.Kinds as array-at-kinds
+use Rattle.control.proofs.Control.array_at.Reads as array-at-reads
+use Rattle.control.proofs.Control.security_at.Kinds as security-at-kinds
+use Rattle.control.proofs.Control.security_at.Reads as security-at-reads
+use Rattle.control.proofs.Control.locked_now.Kinds as locked-now-kinds
+use Rattle.control.proofs.Control.locked_now.Reads as locked-now-reads
+use Rattle.control.proofs.Control.configured.Kinds as configured-kinds
+use Rattle.control.proofs.Control.configured.Reads as configured-reads
+use Rattle.control.proofs.Control.wp_at.Kinds as wp-at-kinds
+use Rattle.control.proofs.Control.wp_at.Reads as wp-at-reads
+use Rattle.control.proofs.Control.acked.Kinds as acked-kinds
+use Rattle.control.proofs.Control.acked.Reads as acked-reads
+use Rattle.control.proofs.Control.silent.Kinds as silent-kinds
+use Rattle.control.proofs.Control.silent.Reads as silent-reads
+use Rattle.control.proofs.Control.stays.Kinds as stays-kinds
+use Rattle.control.proofs.Control.stays.Reads as stays-reads
+use Rattle.control.proofs.phase.is_busy.Kinds as is-busy-kinds
+use Rattle.control.proofs.phase.is_busy.Reads as is-busy-reads
+
+pub fresh-unique : Unique fresh-kinds.ps fresh-kinds.r fresh-reads.Post
+fresh-unique κs args x y at-x at-y = same
+
+pub in-phase-unique : Unique in-phase-kinds.ps in-phase-kinds.r in-phase-reads.Post
+in-phase-unique κs args x y at-x at-y = same
+
+pub showing-unique : Unique showing-kinds.ps showing-kinds.r showing-reads.Post
+showing-unique κs args x y at-x at-y = same
+
+pub choosing-unique : Unique choosing-kinds.ps choosing-kinds.r choosing-reads.Post
+choosing-unique κs args x y at-x at-y = same
+
+pub array-at-unique : Unique array-at-kinds.ps array-at-kinds.r array-at-reads.Post
+array-at-unique κs args x y at-x at-y = same
+
+pub security-at-unique : Unique security-at-kinds.ps security-at-kinds.r security-at-reads.Post
+security-at-unique κs args x y at-x at-y = same
+
+pub locked-now-unique : Unique locked-now-kinds.ps locked-now-kinds.r locked-now-reads.Post
+locked-now-unique κs args x y at-x at-y = same
+
+pub configured-unique : Unique configured-kinds.ps configured-kinds.r configured-reads.Post
+configured-unique κs args x y at-x at-y = same
+
+pub wp-at-unique : Unique wp-at-kinds.ps wp-at-kinds.r wp-at-reads.Post
+wp-at-unique κs args x y at-x at-y = same
+
+pub acked-unique : Unique acked-kinds.ps acked-kinds.r acked-reads.Post
+acked-unique κs args x y at-x at-y = same
+
+pub silent-unique : Unique silent-kinds.ps silent-kinds.r silent-reads.Post
+silent-unique κs args x y at-x at-y = same
+
+pub stays-unique : Unique stays-kinds.ps stays-kinds.r stays-reads.Post
+stays-unique κs args x y at-x at-y = same
+
+pub is-busy-unique : Unique is-busy-kinds.ps is-busy-kinds.r is-busy-reads.Post
+is-busy-unique κs args x y at-x at-y = same

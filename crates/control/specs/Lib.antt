@@ -1,0 +1,3 @@
+pub mod Phase
+pub mod Control
+pub mod Said

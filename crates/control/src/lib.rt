@@ -1,0 +1,175 @@
+// A chip without its page load: its pins, registers and counters, and where it stands in an exchange.
+pub mod phase;
+
+use crate::phase::Phase;
+use crate::phase::Shown;
+ghost use mathlib.Core.Path.{_≡_};
+ghost use Rattle.control.specs.Control.{fresh, inPhase, showing, choosing, arrayAt, securityAt, lockedNow, configured, wpAt};
+ghost use Rattle.control.specs.Said.{acked, silent, stays};
+
+// Part and strap are raw numbers, since a malformed state may hold any. The counters are `array` and `security`.
+pub struct Control {
+    pub part: u8,
+    pub strap: u8,
+    pub wp: bool,
+    pub config0: u8,
+    pub config1: u8,
+    pub locked: bool,
+    pub array: u32,
+    pub security: u32,
+    pub shown: Shown,
+    pub chosen: bool,
+    pub phase: Phase,
+}
+
+// What a chip says to an event.
+pub enum Said {
+    Nothing,
+    Ack,
+    Byte(u8),
+}
+
+pub struct Answered {
+    pub control: Control,
+    pub said: Said,
+}
+
+impl Control {
+    // As set up (paper, "The two memories").
+    pub fn fresh(part: u8, strap: u8) -> Control
+        ensures { λ r. ⌜ r ≡ fresh part strap ⌝ }
+    {
+        Control {
+            part,
+            strap,
+            wp: false,
+            config0: 0,
+            config1: 0,
+            locked: false,
+            array: 0,
+            security: 0,
+            shown: Shown::ShowsSecurity,
+            chosen: false,
+            phase: Phase::Standby,
+        }
+    }
+
+    // Setters: with `fresh` the only places that name every field.
+    pub fn in_phase(self, phase: Phase) -> Control
+        ensures { λ r. ⌜ r ≡ inPhase phase self ⌝ }
+    {
+        let shown = self.shown;
+        Control {
+            part: self.part,
+            strap: self.strap,
+            wp: self.wp,
+            config0: self.config0,
+            config1: self.config1,
+            locked: self.locked,
+            array: self.array,
+            security: self.security,
+            shown,
+            chosen: self.chosen,
+            phase,
+        }
+    }
+
+    pub fn showing(self, shown: Shown) -> Control
+        ensures { λ r. ⌜ r ≡ showing shown self ⌝ }
+    {
+        let phase = self.phase;
+        Control {
+            part: self.part,
+            strap: self.strap,
+            wp: self.wp,
+            config0: self.config0,
+            config1: self.config1,
+            locked: self.locked,
+            array: self.array,
+            security: self.security,
+            shown,
+            chosen: self.chosen,
+            phase,
+        }
+    }
+
+    pub fn choosing(self, chosen: bool) -> Control
+        ensures { λ r. ⌜ r ≡ choosing chosen self ⌝ }
+    {
+        let mut control = self;
+        control.chosen = chosen;
+        control
+    }
+
+    pub fn array_at(self, at: u32) -> Control
+        ensures { λ r. ⌜ r ≡ arrayAt at self ⌝ }
+    {
+        let mut control = self;
+        control.array = at;
+        control
+    }
+
+    pub fn security_at(self, at: u32) -> Control
+        ensures { λ r. ⌜ r ≡ securityAt at self ⌝ }
+    {
+        let mut control = self;
+        control.security = at;
+        control
+    }
+
+    pub fn locked_now(self) -> Control
+        ensures { λ r. ⌜ r ≡ lockedNow self ⌝ }
+    {
+        let mut control = self;
+        control.locked = true;
+        control
+    }
+
+    pub fn configured(self, config0: u8, config1: u8) -> Control
+        ensures { λ r. ⌜ r ≡ configured config0 config1 self ⌝ }
+    {
+        let mut control = self;
+        control.config0 = config0;
+        control.config1 = config1;
+        control
+    }
+
+    pub fn wp_at(self, level: bool) -> Control
+        ensures { λ r. ⌜ r ≡ wpAt level self ⌝ }
+    {
+        let mut control = self;
+        control.wp = level;
+        control
+    }
+
+    // A byte acknowledged, and one that is not.
+    pub fn acked(self, phase: Phase) -> Answered
+        ensures { λ r. ⌜ r ≡ acked phase self ⌝ }
+    {
+        let control = self.in_phase(phase);
+        Answered {
+            control,
+            said: Said::Ack,
+        }
+    }
+
+    pub fn silent(self, phase: Phase) -> Answered
+        ensures { λ r. ⌜ r ≡ silent phase self ⌝ }
+    {
+        let control = self.in_phase(phase);
+        Answered {
+            control,
+            said: Said::Nothing,
+        }
+    }
+
+    // An event that is not for this chip.
+    pub fn stays(self) -> Answered
+        ensures { λ r. ⌜ r ≡ stays self ⌝ }
+    {
+        Answered {
+            control: self,
+            said: Said::Nothing,
+        }
+    }
+}

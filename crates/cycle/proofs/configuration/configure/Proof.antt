@@ -1,0 +1,41 @@
+use mathlib.Core.Path.{_∙_, sym}
+use borrow.Author.Needs.{needs}
+use Rattle.cycle.proofs.configuration.configure.Statement.{statement}
+use Rattle.cycle.proofs.configuration.configure.Tie as tie
+
+bit-of-requires : tie.Need-bit-of-requires
+bit-of-requires c κs = search needs
+
+confirms-requires : tie.Need-confirms-requires
+confirms-requires c κs = search needs
+
+and-requires : tie.Need-and-requires
+and-requires c κs = search needs
+
+configured-requires : tie.Need-configured-requires
+configured-requires c κs = search needs
+
+started-requires : tie.Need-started-requires
+started-requires c κs = search needs
+
+ended-requires : tie.Need-ended-requires
+ended-requires c κs = search needs
+
+returns : tie.Need-returns
+returns c = rw (← c .before .before .before .before .confirms .ensures, ← c .before .before .before .before .before .bit-of .ensures, sym (c .before .before .before .and .ensures) ∙ c .before .before .if1 .taken, c .started .ensures, c .before .configured .ensures)
+
+returns-2 : tie.Need-returns-2
+returns-2 c = rw (← c .before .before .before .confirms .ensures, ← c .before .before .before .before .bit-of .ensures, sym (c .before .before .and .ensures) ∙ c .before .if1 .left, c .ended .ensures)
+
+pub configure-spec : {M : Type 1} → statement M
+configure-spec =
+    tie.close
+    (tie.spec
+    bit-of-requires
+    confirms-requires
+    and-requires
+    configured-requires
+    started-requires
+    ended-requires
+    returns
+    returns-2)

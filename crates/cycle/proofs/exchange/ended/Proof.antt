@@ -1,0 +1,15 @@
+use borrow.Author.Needs.{needs}
+use Rattle.cycle.proofs.exchange.ended.Statement.{statement}
+use Rattle.cycle.proofs.exchange.ended.Tie as tie
+
+choosing-requires : tie.Need-choosing-requires
+choosing-requires c κs = search needs
+
+in-phase-requires : tie.Need-in-phase-requires
+in-phase-requires c κs = search needs
+
+returns : tie.Need-returns
+returns c = rw (c .in-phase .ensures, c .before .choosing .ensures)
+
+pub ended-spec : {M : Type 1} → statement M
+ended-spec = tie.close (tie.spec choosing-requires in-phase-requires returns)

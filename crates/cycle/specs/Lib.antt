@@ -1,0 +1,4 @@
+pub mod Exchange
+pub mod Protection
+pub mod Configuration
+pub mod Stop

@@ -1,0 +1,95 @@
+// What a Stop does: it starts a write cycle, or ends the exchange without one (paper, "Stop", "Protection", "Security register"
+// and "Configuration").
+pub mod configuration;
+pub mod exchange;
+pub mod protection;
+
+use crate::exchange::ended;
+use crate::exchange::started;
+use crate::protection::id_page_protected;
+use crate::protection::is_protected;
+use control::Control;
+use control::phase::Data;
+use control::phase::Phase;
+use load::Load;
+use regions::page::in_id_page;
+ghost use mathlib.Core.Path.{_≡_};
+ghost use Rattle.cycle.specs.Stop.{writesArray, writesSecurity, stopArray, stopSecurity, stopLock, stopData, stop};
+
+// With at least one data byte, and the page not protected at this moment.
+fn writes_array(c: Control, load: Load) -> bool
+    ensures { λ r. ⌜ r ≡ writesArray c load ⌝ }
+{
+    let free = !is_protected(c);
+    base::test::and(load.holds(c.part), free)
+}
+
+// The same, and in the ID page: the read-only half never changes.
+fn writes_security(c: Control, load: Load) -> bool
+    ensures { λ r. ⌜ r ≡ writesSecurity c load ⌝ }
+{
+    let free = !id_page_protected(c);
+    let writable = base::test::and(in_id_page(c.part, c.security), free);
+    base::test::and(load.holds(c.part), writable)
+}
+
+// Nothing is stored before the Stop.
+fn stop_array(c: Control, load: Load, array: &mut [u8]) -> Control
+    ensures { λ r. ⌜ (r, now (array .exit)) ≡ stopArray c load (now (array .entry)) ⌝ }
+{
+    if writes_array(c, load) {
+        load.store_page(c.part, c.array, array);
+        return started(c);
+    }
+    ended(c)
+}
+
+fn stop_security(c: Control, load: Load, security: &mut [u8]) -> Control
+    ensures { λ r. ⌜ (r, now (security .exit)) ≡ stopSecurity c load (now (security .entry)) ⌝ }
+{
+    if writes_security(c, load) {
+        load.store_page(c.part, c.security, security);
+        return started(c);
+    }
+    ended(c)
+}
+
+// With at least one data byte, on a page that is not locked yet.
+fn stop_lock(some: bool, c: Control) -> Control
+    ensures { λ r. ⌜ r ≡ stopLock some c ⌝ }
+{
+    let free = !c.locked;
+    if base::test::and(some, free) {
+        started(c.locked_now())
+    } else {
+        ended(c)
+    }
+}
+
+fn stop_data(kind: Data, c: Control, load: Load, array: &mut [u8], security: &mut [u8]) -> Control
+    ensures { λ r. ⌜ (r, now (array .exit), now (security .exit)) ≡ stopData kind c load (now (array .entry)) (now (security .entry)) ⌝ }
+{
+    match kind {
+        Data::ToArray => stop_array(c, load, array),
+        Data::ToSecurity => stop_security(c, load, security),
+        Data::ToConfiguration(came) => configuration::stop_configuration(came, c),
+        Data::ToLock(some) => stop_lock(some, c),
+        Data::ToNowhere => ended(c),
+    }
+}
+
+// A Stop. A busy chip takes no notice.
+pub fn stop(c: Control, load: Load, array: &mut [u8], security: &mut [u8]) -> Control
+    ensures { λ r. ⌜ (r, now (array .exit), now (security .exit)) ≡ stop c load (now (array .entry)) (now (security .entry)) ⌝ }
+{
+    let phase = c.phase;
+    match phase {
+        Phase::Standby => ended(c),
+        Phase::Busy => c,
+        Phase::AwaitsAddress => ended(c),
+        Phase::AwaitsChoice => ended(c),
+        Phase::AwaitsWord(_) => ended(c),
+        Phase::TakesData(kind) => stop_data(kind, c, load, array, security),
+        Phase::SendsByte(_) => ended(c),
+    }
+}

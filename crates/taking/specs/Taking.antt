@@ -1,0 +1,52 @@
+-- A byte sent by the host, by the phase of the chip that it meets; its load is left aside (paper, "Data", "Configuration" and
+-- "Security register"; sheets 6.1, 6.2, 9.3, 10.3 and 10.4.1).
+use Prim.Native.Nat.{ℕ}
+use mathlib.Core.Bool.{Bool, true, false, cond}
+use Rattle.parts.specs.Part.{geometryOf}
+use Rattle.regions.specs.Page.{nextInPage}
+use Rattle.control.specs.declared.Control.{Control}
+use Rattle.control.specs.declared.Answered.{Answered}
+use Rattle.control.specs.declared.phase.Phase.{Phase}
+use Rattle.control.specs.declared.phase.Phase.the-variants.{Standby, Busy, AwaitsAddress, AwaitsChoice, AwaitsWord, TakesData, SendsByte}
+use Rattle.control.specs.declared.phase.Data.{Data}
+use Rattle.control.specs.declared.phase.Data.the-variants.{ToArray, ToSecurity, ToConfiguration, ToLock, ToNowhere}
+use Rattle.control.specs.declared.phase.Came.{Came}
+use Rattle.control.specs.declared.phase.Came.the-variants.{Zero, One, Two, Three, More}
+use Rattle.control.specs.Control.{arrayAt, securityAt}
+use Rattle.control.specs.Said.{acked, silent, stays}
+use Rattle.address.specs.Address.{takeAddress, takeChoice}
+use Rattle.words.specs.Word.{takeWord}
+
+-- one byte more for the configuration register; past the third they are not kept
+abbrev pub cameMore : Came → ℕ → Came
+cameMore Zero byte = One byte
+cameMore (One first) byte = Two first byte
+cameMore (Two first second) byte = Three first second byte
+cameMore (Three first second third) byte = More
+cameMore More byte = More
+
+-- a locked page answers a lock command's data with a missing acknowledge (sheets 10.4.1)
+abbrev pub takeLockData : Control → Answered
+takeLockData c = cond (c .locked) (silent Standby c) (acked (TakesData (ToLock true)) c)
+
+-- each byte is acknowledged, and the counter's low part advances and wraps within the page, in the read-only half and on a
+-- protected or locked page too
+abbrev pub takeData : Data → Control → ℕ → Answered
+takeData ToArray c byte = acked (TakesData ToArray) (arrayAt (nextInPage (geometryOf (c .part)) (c .array)) c)
+takeData ToSecurity c byte = acked (TakesData ToSecurity) (securityAt (nextInPage (geometryOf (c .part)) (c .security)) c)
+takeData (ToConfiguration came) c byte = acked (TakesData (ToConfiguration (cameMore came byte))) c
+takeData (ToLock some) c byte = takeLockData c
+takeData ToNowhere c byte = acked (TakesData ToNowhere) c
+
+-- on standby, busy or sending a chip says nothing and stays as it is
+abbrev pub takeIn : Phase → Control → ℕ → Answered
+takeIn Standby c byte = stays c
+takeIn Busy c byte = stays c
+takeIn AwaitsAddress c byte = takeAddress c byte
+takeIn AwaitsChoice c byte = takeChoice c byte
+takeIn (AwaitsWord word) c byte = takeWord word c byte
+takeIn (TakesData kind) c byte = takeData kind c byte
+takeIn (SendsByte source) c byte = stays c
+
+unfoldable pub take : Control → ℕ → Answered
+take c byte = takeIn (c .phase) c byte

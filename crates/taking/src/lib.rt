@@ -1,0 +1,75 @@
+// A chip that takes bytes: what a byte sent by the host does to it, its load left aside (paper, "Data", "Configuration" and
+// "Security register").
+use address::take_address;
+use address::take_choice;
+use control::Answered;
+use control::Control;
+use control::phase::Came;
+use control::phase::Data;
+use control::phase::Phase;
+use regions::page::next_in_page;
+use words::take_word;
+ghost use mathlib.Core.Path.{_≡_};
+ghost use Rattle.taking.specs.Taking.{cameMore, takeLockData, takeData, take};
+
+// One byte more for the configuration register.
+fn came_more(came: Came, byte: u8) -> Came
+    ensures { λ r. ⌜ r ≡ cameMore came byte ⌝ }
+{
+    match came {
+        Came::Zero => Came::One(byte),
+        Came::One(first) => Came::Two(first, byte),
+        Came::Two(first, second) => Came::Three(first, second, byte),
+        Came::Three(_, _, _) => Came::More,
+        Came::More => Came::More,
+    }
+}
+
+// On a locked page a lock command's data is not acknowledged either (sheets 10.4.1).
+fn take_lock_data(c: Control) -> Answered
+    ensures { λ r. ⌜ r ≡ takeLockData c ⌝ }
+{
+    if c.locked {
+        c.silent(Phase::Standby)
+    } else {
+        c.acked(Phase::TakesData(Data::ToLock(true)))
+    }
+}
+
+// The counter goes round its page, also where the data will not be stored.
+fn take_data(kind: Data, c: Control, byte: u8) -> Answered
+    ensures { λ r. ⌜ r ≡ takeData kind c byte ⌝ }
+{
+    match kind {
+        Data::ToArray => {
+            let moved = c.array_at(next_in_page(c.part, c.array));
+            moved.acked(Phase::TakesData(Data::ToArray))
+        }
+        Data::ToSecurity => {
+            let moved = c.security_at(next_in_page(c.part, c.security));
+            moved.acked(Phase::TakesData(Data::ToSecurity))
+        }
+        Data::ToConfiguration(came) => c.acked(Phase::TakesData(Data::ToConfiguration(came_more(
+            came,
+            byte,
+        )))),
+        Data::ToLock(_) => take_lock_data(c),
+        Data::ToNowhere => c.acked(Phase::TakesData(Data::ToNowhere)),
+    }
+}
+
+// A byte sent, by the phase that it meets. A chip on standby, busy or sending says nothing and stays.
+pub fn take(c: Control, byte: u8) -> Answered
+    ensures { λ r. ⌜ r ≡ take c byte ⌝ }
+{
+    let phase = c.phase;
+    match phase {
+        Phase::Standby => c.stays(),
+        Phase::Busy => c.stays(),
+        Phase::AwaitsAddress => take_address(c, byte),
+        Phase::AwaitsChoice => take_choice(c, byte),
+        Phase::AwaitsWord(word) => take_word(word, c, byte),
+        Phase::TakesData(kind) => take_data(kind, c, byte),
+        Phase::SendsByte(_) => c.stays(),
+    }
+}

@@ -36,12 +36,13 @@ start c =
     cond (isBusy (c .control .phase)) c
     (record { control = control.inPhase AwaitsAddress (c .control); load = load.emptied (c .load) })
 
--- Data: a byte for the array or the security register is loaded at its counter's place; nothing is stored yet
+-- Data: a byte for the array or the security register is loaded at its counter's place; nothing is stored yet. Lock data on a
+-- locked page ends the exchange, and any load with it
 abbrev pub put : Data → Load → Control → ℕ → Load
 put ToArray held c byte = load.put (geometryOf (c .part)) (c .array) byte held
 put ToSecurity held c byte = load.put (geometryOf (c .part)) (c .security) byte held
 put (ToConfiguration came) held c byte = held
-put (ToLock some) held c byte = held
+put (ToLock some) held c byte = cond (c .locked) (load.emptied held) held
 put ToNowhere held c byte = held
 
 abbrev pub loadedIn : Phase → Load → Control → ℕ → Load

@@ -167,7 +167,8 @@ fn quiet(chip: Chip) -> Stepped
     }
 }
 
-// A data byte goes into the load only where it is for the array or the security register.
+// A data byte goes into the load where it is for the array or the security register. On a locked page lock data ends the
+// exchange, and any load with it.
 fn put(kind: Data, load: Load, c: Control, byte: u8) -> Load
     ensures { λ r. ⌜ r ≡ put kind load c byte ⌝ }
 {
@@ -175,7 +176,7 @@ fn put(kind: Data, load: Load, c: Control, byte: u8) -> Load
         Data::ToArray => load.put(c.part, c.array, byte),
         Data::ToSecurity => load.put(c.part, c.security, byte),
         Data::ToConfiguration(_) => load,
-        Data::ToLock(_) => load,
+        Data::ToLock(_) => { if c.locked { load.emptied() } else { load } }
         Data::ToNowhere => load,
     }
 }

@@ -26,6 +26,8 @@ use Rattle.control.proofs.Control.stays.Kinds as stays-kinds
 use Rattle.control.proofs.Control.stays.Reads as stays-reads
 use Rattle.control.proofs.phase.is_busy.Kinds as is-busy-kinds
 use Rattle.control.proofs.phase.is_busy.Reads as is-busy-reads
+use Rattle.control.proofs.phase.takes_data.Kinds as takes-data-kinds
+use Rattle.control.proofs.phase.takes_data.Reads as takes-data-reads
 
 pub fresh-unique : Unique fresh-kinds.ps fresh-kinds.r fresh-reads.Post
 fresh-unique κs args x y at-x at-y = same
@@ -65,3 +67,6 @@ stays-unique κs args x y at-x at-y = same
 
 pub is-busy-unique : Unique is-busy-kinds.ps is-busy-kinds.r is-busy-reads.Post
 is-busy-unique κs args x y at-x at-y = same
+
+pub takes-data-unique : Unique takes-data-kinds.ps takes-data-kinds.r takes-data-reads.Post
+takes-data-unique κs args x y at-x at-y = same

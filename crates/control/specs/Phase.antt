@@ -12,3 +12,13 @@ isBusy AwaitsChoice = false
 isBusy (AwaitsWord word) = false
 isBusy (TakesData kind) = false
 isBusy (SendsByte source) = false
+
+-- it takes data bytes, and so may hold a load
+abbrev pub takesData : Phase → Bool
+takesData Standby = false
+takesData Busy = false
+takesData AwaitsAddress = false
+takesData AwaitsChoice = false
+takesData (AwaitsWord word) = false
+takesData (TakesData kind) = true
+takesData (SendsByte source) = false

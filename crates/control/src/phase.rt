@@ -1,6 +1,6 @@
 // Where a chip stands in an exchange. Each case carries what only it needs.
 ghost use mathlib.Core.Path.{_≡_};
-ghost use Rattle.control.specs.Phase.{isBusy};
+ghost use Rattle.control.specs.Phase.{isBusy, takesData};
 
 pub enum Phase {
     Standby,
@@ -66,6 +66,21 @@ pub fn is_busy(phase: Phase) -> bool
         Phase::AwaitsChoice => false,
         Phase::AwaitsWord(_) => false,
         Phase::TakesData(_) => false,
+        Phase::SendsByte(_) => false,
+    }
+}
+
+// Only such a chip holds a load.
+pub fn takes_data(phase: Phase) -> bool
+    ensures { λ r. ⌜ r ≡ takesData phase ⌝ }
+{
+    match phase {
+        Phase::Standby => false,
+        Phase::Busy => false,
+        Phase::AwaitsAddress => false,
+        Phase::AwaitsChoice => false,
+        Phase::AwaitsWord(_) => false,
+        Phase::TakesData(_) => true,
         Phase::SendsByte(_) => false,
     }
 }

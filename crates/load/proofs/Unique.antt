@@ -12,6 +12,8 @@ use Rattle.load.proofs.Load.put.Kinds as put-kinds
 use Rattle.load.proofs.Load.put.Reads as put-reads
 use Rattle.load.proofs.Load.holds.Kinds as holds-kinds
 use Rattle.load.proofs.Load.holds.Reads as holds-reads
+use Rattle.load.proofs.Load.within.Kinds as within-kinds
+use Rattle.load.proofs.Load.within.Reads as within-reads
 use Rattle.load.proofs.Load.store_page.Kinds as store-page-kinds
 use Rattle.load.proofs.Load.store_page.Reads as store-page-reads
 
@@ -26,6 +28,9 @@ put-unique κs args x y at-x at-y = same
 
 pub holds-unique : Unique holds-kinds.ps holds-kinds.r holds-reads.Post
 holds-unique κs args x y at-x at-y = same
+
+pub within-unique : Unique within-kinds.ps within-kinds.r within-reads.Post
+within-unique κs args x y at-x at-y = same
 
 pub store-page-unique : UniqueOutcome store-page-kinds.ps store-page-kinds.r (List ℕ) (λ κs result at. (now (at .1 .1 .1 .0))) store-page-reads.Post
 store-page-unique κs args x y at-x at-y = same

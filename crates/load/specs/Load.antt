@@ -1,10 +1,11 @@
 -- A page load: each byte that comes is loaded, so that later bytes replace earlier ones, and nothing is stored before the Stop
 -- (paper, "Data" and "Stop"; sheets 6.2).
 use Prim.Native.Nat.{ℕ, _+_, _*_}
-use mathlib.Core.Bool.{Bool, true, false, cond}
+use mathlib.Core.Bool.{Bool, true, false, cond, not, _||_}
 use mathlib.Core.List.{List}
+use lib.Dec.{ltb}
 use lib.ListN.{replicate, set, getD}
-use Rattle.base.specs.Fold.{upTo, anyBelow}
+use Rattle.base.specs.Fold.{upTo, allBelow, anyBelow}
 use Rattle.parts.specs.declared.part.Geometry.{Geometry}
 use Rattle.regions.specs.Page.{pageOf, placeOf}
 use Rattle.load.specs.declared.Load.{Load}
@@ -28,6 +29,13 @@ isMarked load place = getD (load .marks) place false
 -- at least one byte of the page is loaded
 unfoldable pub holds : Geometry → Load → Bool
 holds g load = anyBelow (isMarked load) (g .page)
+
+-- no byte is marked at a place or past it
+abbrev pub fitsAt : ℕ → Load → ℕ → Bool
+fitsAt most load place = not (isMarked load place) || ltb place most
+
+unfoldable pub within : ℕ → Load → Bool
+within most load = allBelow (fitsAt most load) 256
 
 -- a byte that is marked, at its address; past the store nothing changes
 abbrev pub storeByte : Bool → ℕ → ℕ → List ℕ → List ℕ

@@ -4,7 +4,7 @@ use regions::page::page_of;
 use regions::page::place_of;
 ghost use mathlib.Core.Path.{_≡_};
 ghost use Rattle.parts.specs.Part.{geometryOf};
-ghost use Rattle.load.specs.Load.{empty, emptied, put, holds, storeByte, storePage};
+ghost use Rattle.load.specs.Load.{empty, emptied, put, holds, within, storeByte, storePage};
 
 // The bytes of the largest page.
 pub const PAGE_MOST: usize = 256;
@@ -56,6 +56,21 @@ impl Load {
             i += 1;
         }
         found
+    }
+
+    // Whether no byte is marked at some place or past it.
+    pub fn within(self, most: u32) -> bool
+        ensures { λ r. ⌜ r ≡ within most self ⌝ }
+    {
+        let end = most as usize;
+        let mut fits = true;
+        let mut i: usize = 0;
+        while i < PAGE_MOST {
+            let unmarked = !self.marks[i];
+            fits = base::test::and(base::test::or(unmarked, i < end), fits);
+            i += 1;
+        }
+        fits
     }
 
     // The marked bytes go to their places in the page that an address lies in; the page's others stay.

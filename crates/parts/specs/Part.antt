@@ -34,6 +34,9 @@ pub record Sound (g : Geometry) : Type 0 where
   pub zone-whole : g .zone / g .page * g .page ≡ g .zone
   pub zone-some : 0 < g .zone
   pub zone-eight : 8 * g .zone ≡ g .array
+  -- both regions are whole pages
+  pub array-whole : g .array / g .page * g .page ≡ g .array
+  pub security-whole : g .security / g .page * g .page ≡ g .security
   -- sums of addresses of the array fit 32 bits
   pub array-most : g .array ≤ 2 ^ 24
   -- a security register is its read-only half and its ID page

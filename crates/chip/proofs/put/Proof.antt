@@ -20,6 +20,9 @@ enum-told-3 c = search needs
 enum-told-4 : tie.Need-enum-told-4
 enum-told-4 c = search needs
 
+emptied-requires : tie.Need-emptied-requires
+emptied-requires c κs = search needs
+
 enum-told-5 : tie.Need-enum-told-5
 enum-told-5 c = search needs
 
@@ -33,10 +36,13 @@ returns-3 : tie.Need-returns-3
 returns-3 c = rw (c .enum-told3 .given .1)
 
 returns-4 : tie.Need-returns-4
-returns-4 c = rw (c .enum-told4 .given .1)
+returns-4 c = rw (c .before .before .enum-told4 .given .1, c .before .if1 .taken) (c .emptied .ensures)
 
 returns-5 : tie.Need-returns-5
-returns-5 c = rw (c .enum-told5 .given .1)
+returns-5 c = rw (c .before .enum-told4 .given .1, c .if1 .left)
+
+returns-6 : tie.Need-returns-6
+returns-6 c = rw (c .enum-told5 .given .1)
 
 pub put-spec : {M : Type 1} → statement M
 put-spec =
@@ -48,9 +54,11 @@ put-spec =
     put-requires-2
     enum-told-3
     enum-told-4
+    emptied-requires
     enum-told-5
     returns
     returns-2
     returns-3
     returns-4
-    returns-5)
+    returns-5
+    returns-6)

@@ -41,6 +41,11 @@ or-right true b h = refl
 or-right false b h = h
 
 module _ (test : ℕ → Bool) where
+  pub all-each : (n : ℕ) → ((i : ℕ) → i < n → test i ≡ true) → allBelow test n ≡ true
+  unfolding upTo
+  all-each zero each = refl
+  all-each (suc n) each = and-both (test n) _ (each n (omega arith)) (all-each n (λ i below. each i (omega arith)))
+
   pub all-at : (n i : ℕ) → allBelow test n ≡ true → i < n → test i ≡ true
   unfolding upTo
   all-at zero i all below = absurd (omega arith)

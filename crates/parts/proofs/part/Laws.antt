@@ -1,5 +1,5 @@
 -- Both parts are sound, so every number has sound figures: each fact about figures is proved over any sound ones.
-use Prim.Native.Nat.{ℕ}
+use Prim.Native.Nat.{ℕ, _<_}
 use native.Mathlib.Omega.{arith}
 use mathlib.Core.Bool.{Bool, true, false, cond}
 use mathlib.Core.Path.{_≡_, subst⁻¹}
@@ -24,3 +24,7 @@ sound-of part = either (eqb part 1)
 -- what `geometry_of` returns is sound
 pub sound-is : (part : ℕ) {g : Geometry} → g ≡ geometryOf part → Sound g
 sound-is part is = subst⁻¹ Sound is (sound-of part)
+
+-- an array has a byte
+pub array-some : {g : Geometry} → Sound g → 0 < g .array
+array-some sound = omega (arith, sound .zone-eight, sound .zone-some)

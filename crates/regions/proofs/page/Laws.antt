@@ -35,11 +35,19 @@ module _ (g : Geometry) (sound : Sound g) (at : ℕ) where
   pub next-place-below : nextIn (g .page) (placeOf g at) < g .page
   next-place-below = next-below (g .page) (placeOf g at) (sound .page-some)
 
+  -- where a region is whole pages, the page of an address in it ends in it
+  pub page-inside : (size : ℕ) → size / g .page * g .page ≡ size → at < size → pageOf g at * g .page + g .page ≤ size
+  page-inside size whole inside =
+      let below : pageOf g at < size / g .page = div-lt-iff-lt-mul (sound .page-some) .1 (omega (arith, whole)) in
+      omega (arith, mul-le-mul-right (g .page) below, add-mul (pageOf g at) 1 (g .page), one-mul (g .page), whole)
+
   -- the page of an address of 32 bits ends below 2 ^ 32
   pub page-ends : at < 2 ^ 32 → pageOf g at * g .page + g .page ≤ 2 ^ 32
-  page-ends fits =
-      let below : pageOf g at < 2 ^ 32 / g .page = div-lt-iff-lt-mul (sound .page-some) .1 (omega (arith, sound .page-fits)) in
-      omega (arith, mul-le-mul-right (g .page) below, add-mul (pageOf g at) 1 (g .page), one-mul (g .page), sound .page-fits)
+  page-ends = page-inside (2 ^ 32) (sound .page-fits)
+
+  -- and a load that goes round its page stays in the region
+  pub next-inside : (size : ℕ) → size / g .page * g .page ≡ size → at < size → nextInPage g at < size
+  next-inside size whole inside = omega (arith, page-inside size whole inside, next-place-below)
 
   -- the next place stays in the page, and is the one after
   pub next-stays : pageOf g (nextInPage g at) ≡ pageOf g at

@@ -1,0 +1,59 @@
+-- The clauses of a chip together with those of the load it holds, and the few moves by which they are kept.
+use Prim.Native.Nat.{ℕ}
+use native.Mathlib.Omega.{arith}
+use mathlib.Core.Bool.{Bool, true, false, cond, not, _&&_}
+use mathlib.Core.Path.{_≡_, refl}
+use Rattle.parts.specs.Part.{geometryOf}
+use Rattle.load.specs.declared.Load.{Load}
+use Rattle.load.specs.Load.{emptied, within}
+use Rattle.load.proofs.Laws.{within-emptied, within-more}
+use Rattle.control.specs.declared.Control.{Control}
+use Rattle.control.specs.declared.phase.Phase.the-variants.{Standby, Busy, TakesData}
+use Rattle.control.specs.declared.phase.Data.{Data}
+use Rattle.control.specs.Phase.{isBusy}
+use Rattle.control.specs.Control.{inPhase, choosing}
+use Rattle.cycle.specs.Exchange.{ended, started}
+use Rattle.wellformed.specs.Wellformed.{loadMost}
+use Rattle.wellformed.proofs.Fits.{Fits, together, in-phase-fits, choosing-fits}
+use Rattle.load.specs.Load.{empty}
+
+-- the clauses of a chip and of the load it holds
+abbrev pub Good : Control → Load → Type 0
+Good c load = Fits c × (within (loadMost c) load ≡ true)
+
+-- a page of the chip's part
+abbrev pub page : Control → ℕ
+page c = geometryOf (c .part) .page
+
+unchosen : (b : Bool) → not (b && false) ≡ true
+unchosen true = refl
+unchosen false = refl
+
+-- a choice by a test keeps what both sides keep
+pub either : {A : Type 0} (P : A → Type 0) (test : Bool) (x y : A) → P x → P y → P (cond test x y)
+either P true x y px py = px
+either P false x y px py = py
+
+module _ (c : Control) (f : Fits c) where
+  -- no chosen chip is busy, so dropping a choice is always right
+  pub dropped : Fits (choosing false c)
+  dropped = choosing-fits c f false (unchosen (isBusy (c .phase)))
+
+  pub ended-fits : Fits (ended c)
+  ended-fits = in-phase-fits _ dropped Standby refl refl
+
+  pub started-fits : Fits (started c)
+  started-fits = in-phase-fits _ dropped Busy refl refl
+
+module _ (c : Control) (load : Load) (f : Fits c) (empty : within 0 load ≡ true) where
+  -- a chip that takes no data keeps an empty load empty
+  pub standby : Good (inPhase Standby c) load
+  standby = (in-phase-fits c f Standby refl refl, empty)
+
+  -- and one that begins to may fill a page
+  pub begins : (kind : Data) → Good (inPhase (TakesData kind) c) load
+  begins kind = (in-phase-fits c f (TakesData kind) refl refl, within-more 0 (page c) load (omega arith) empty)
+
+-- an emptied load is inside whatever a chip may mark
+pub emptied-good : (c : Control) (load : Load) → Fits c → Good c (emptied load)
+emptied-good c load f = (f, within-emptied (loadMost c) load)

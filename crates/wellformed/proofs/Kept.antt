@@ -1,0 +1,88 @@
+-- A chip that is well formed stays so under every event, and a fresh one is well formed.
+use Prim.Native.Nat.{ℕ}
+use mathlib.Core.Bool.{true, cond}
+use mathlib.Core.List.{List}
+use mathlib.Core.Path.{_≡_, refl}
+use borrow.Author.Tests.{lt-ltb}
+use Rattle.base.proofs.Fold.{and-left, and-right, and-both}
+use Rattle.parts.proofs.part.Laws.{sound-of}
+use Rattle.control.specs.declared.phase.Phase.{Phase}
+use Rattle.control.specs.declared.phase.Phase.the-variants.{Standby, Busy, AwaitsAddress, AwaitsChoice, AwaitsWord, TakesData, SendsByte}
+use Rattle.control.specs.declared.phase.Shown.the-variants.{ShowsSecurity}
+use Rattle.control.specs.Phase.{isBusy}
+use Rattle.control.specs.Control.{inPhase}
+use Rattle.taking.specs.Taking.{take}
+use Rattle.sending.specs.Sending.{read}
+use Rattle.cycle.specs.Stop.{stop}
+use Rattle.chip.specs.declared.Chip.{Chip}
+use Rattle.chip.specs.declared.event.Event.{Event}
+use Rattle.chip.specs.declared.event.Event.the-variants.{Start, Stop, Sent, Read, Wp, CycleOver, PowerUp}
+use Rattle.chip.specs.Chip as chip
+use Rattle.wellformed.specs.Wellformed.{wellFormed}
+use Rattle.wellformed.proofs.Fits.{Fits, apart, together, in-phase-fits, showing-fits, array-fits, security-fits, wp-fits}
+use Rattle.wellformed.specs.Wellformed.{isSetUp, controlFits}
+use Rattle.load.specs.Load.{empty}
+use Rattle.control.specs.Control as control
+use Rattle.parts.proofs.part.Laws.{array-some}
+use Rattle.wellformed.proofs.Good.{Good, either, dropped, standby, emptied-good}
+use Rattle.wellformed.proofs.Taking.{take-good}
+use Rattle.wellformed.proofs.Sending.{read-good}
+use Rattle.wellformed.proofs.Stopping.{stop-fits}
+
+-- the clauses hold of a chip exactly when the test does
+good-of : (c : Chip) → wellFormed c ≡ true → Good (c .control) (c .load)
+unfolding wellFormed
+good-of c formed = (apart (c .control) (and-left _ _ formed), and-right (controlFits (c .control)) _ formed)
+
+formed-of : (c : Chip) → Good (c .control) (c .load) → wellFormed c ≡ true
+unfolding wellFormed
+formed-of c good = and-both _ _ (together (c .control) (good .0)) (good .1)
+
+-- a busy chip holds no load, so it may go to standby
+abbrev over : Chip → Chip
+over c = record { control = inPhase Standby (c .control); load = c .load }
+
+over-good : (phase : Phase) (c : Chip) → c .control .phase ≡ phase → Good (c .control) (c .load) → Good (cond (isBusy phase) (over c) c .control) (cond (isBusy phase) (over c) c .load)
+over-good Standby c is good = good
+over-good Busy c is good = standby (c .control) (c .load) (good .0) (rw is at (good .1))
+over-good AwaitsAddress c is good = good
+over-good AwaitsChoice c is good = good
+over-good (AwaitsWord word) c is good = good
+over-good (TakesData kind) c is good = good
+over-good (SendsByte source) c is good = good
+
+module _ (c : Chip) (array security : List ℕ) (good : Good (c .control) (c .load)) where
+  start-good : Good (chip.start c .control) (chip.start c .load)
+  start-good =
+      either (λ (x : Chip). Good (x .control) (x .load)) (isBusy (c .control .phase)) c _ good
+      (emptied-good _ (c .load) (in-phase-fits (c .control) (good .0) AwaitsAddress refl refl))
+
+  stop-good : Good (chip.stop c array security .0 .control) (chip.stop c array security .0 .load)
+  unfolding stop
+  stop-good =
+      either (λ (x : Chip × List ℕ × List ℕ). Good (x .0 .control) (x .0 .load)) (isBusy (c .control .phase)) (c, array, security) _ good
+      (emptied-good _ (c .load) (stop-fits (c .control .phase) (c .control) (c .load) array security (good .0)))
+
+  power-up-good : Good (chip.powerUp c .control) (chip.powerUp c .load)
+  power-up-good =
+      let counted = security-fits _ (array-fits _ (dropped (c .control) (good .0)) 0 (array-some (sound-of (c .control .part)))) 0 (sound-of (c .control .part) .security-some) in
+      emptied-good _ (c .load) (in-phase-fits _ (showing-fits _ counted ShowsSecurity) Standby refl refl)
+
+  step-good : (event : Event) → Good (chip.step c array security event .0 .chip .control) (chip.step c array security event .0 .chip .load)
+  unfolding chip.step chip.loaded take read
+  step-good Start = start-good
+  step-good Stop = stop-good
+  step-good (Sent byte) = take-good (c .control .phase) (c .control) (c .load) byte refl good
+  step-good (Read nack) = read-good (c .control .phase) (c .control) (c .load) array security nack refl good
+  step-good (Wp level) = (wp-fits (c .control) (good .0) level, good .1)
+  step-good CycleOver = over-good (c .control .phase) c refl good
+  step-good PowerUp = power-up-good
+
+pub kept : (c : Chip) (array security : List ℕ) (event : Event) → wellFormed c ≡ true → wellFormed (chip.step c array security event .0 .chip) ≡ true
+kept c array security event formed = formed-of _ (step-good c array security (good-of c formed) event)
+
+-- a chip as set up is well formed, where its part is known and its strap in range
+pub fresh-is-well-formed : (part strap : ℕ) → isSetUp (control.fresh part strap) ≡ true → wellFormed (chip.fresh part strap) ≡ true
+fresh-is-well-formed part strap set-up =
+    let fits : Fits (control.fresh part strap) = record { set-up = set-up; array = lt-ltb _ _ (array-some (sound-of part)); security = lt-ltb _ _ (sound-of part .security-some); unused = refl; place = refl; busy = refl } in
+    formed-of (chip.fresh part strap) (emptied-good _ empty fits)

@@ -1,0 +1,63 @@
+-- A byte read keeps the clauses: counters go round, and the place in the ID stops at its end.
+use Rattle.parts.proofs.part.Laws.{array-some}
+use Prim.Native.Nat.{ℕ, _+_, _<_, _≤_}
+use native.Mathlib.Decide.{decLt}
+use native.Mathlib.Omega.{arith}
+use mathlib.Core.Bool.{Bool, true, false, cond, not}
+use mathlib.Core.List.{List}
+use mathlib.Core.Path.{_≡_, refl}
+use lib.Dec.{leb}
+use borrow.Author.Tests.{lt-ltb, le-ltb, le-leb}
+use Rattle.parts.proofs.part.Laws.{sound-of}
+use Rattle.regions.proofs.page.Laws.{next-below}
+use Rattle.load.specs.declared.Load.{Load}
+use Rattle.load.specs.Load.{within}
+use Rattle.control.specs.declared.Control.{Control}
+use Rattle.control.specs.declared.phase.Phase.{Phase}
+use Rattle.control.specs.declared.phase.Phase.the-variants.{Standby, Busy, AwaitsAddress, AwaitsChoice, AwaitsWord, TakesData, SendsByte}
+use Rattle.control.specs.declared.phase.Source.{Source}
+use Rattle.control.specs.declared.phase.Source.the-variants.{FromArray, FromSecurity, FromConfiguration, FromId, FromNothing}
+use Rattle.control.specs.Control.{inPhase}
+use Rattle.sending.specs.Sending.{nextIdPlace, movedPast, readIn, read}
+use Rattle.wellformed.specs.Wellformed.{idPlaceFits}
+use Rattle.wellformed.proofs.Fits.{Fits, in-phase-fits, array-fits, security-fits}
+use Rattle.load.specs.Load.{empty}
+use Rattle.wellformed.proofs.Good.{Good, standby}
+
+-- a byte read: the place in the ID stops at its end, and counters go round
+next-id-fits : (place : ℕ) → leb (nextIdPlace place) 3 ≡ true
+next-id-fits place = go (decLt place 3)
+  where
+    go : Dec (place < 3) → leb (nextIdPlace place) 3 ≡ true
+    go (yes p) = rw (lt-ltb _ _ p) (le-leb (place + 1) 3 (omega arith))
+    go (no p) = let over : 3 ≤ place = omega arith in rw (le-ltb _ _ over) refl
+
+module _ (c : Control) (load : Load) (f : Fits c) (empty : within 0 load ≡ true) where
+  sends : (source : Source) → idPlaceFits source ≡ true → Good (inPhase (SendsByte source) c) load
+  sends source place = (in-phase-fits c f (SendsByte source) place refl, empty)
+
+  reply-good : (nack : Bool) → Good c load → Good (cond nack (inPhase Standby c) c) load
+  reply-good true good = standby c load f empty
+  reply-good false good = good
+
+moved-good : (source : Source) (c : Control) (load : Load) → c .phase ≡ SendsByte source → Good c load → Good (movedPast source c) load
+moved-good FromArray c load is good =
+    (array-fits c (good .0) _ (next-below _ (c .array) (array-some (sound-of (c .part)))), good .1)
+moved-good FromSecurity c load is good = (security-fits c (good .0) _ (next-below _ (c .security) (sound-of (c .part) .security-some)), good .1)
+moved-good (FromConfiguration second) c load is good = sends c load (good .0) (rw is at (good .1)) (FromConfiguration (not second)) refl
+moved-good (FromId place) c load is good = sends c load (good .0) (rw is at (good .1)) (FromId (nextIdPlace place)) (next-id-fits place)
+moved-good FromNothing c load is good = good
+
+still-sends : (source : Source) (c : Control) (load : Load) → c .phase ≡ SendsByte source → Good c load → within 0 load ≡ true
+still-sends source c load is good = rw is at (good .1)
+
+pub read-good : (phase : Phase) (c : Control) (load : Load) (array security : List ℕ) (nack : Bool) → c .phase ≡ phase → Good c load → Good (readIn phase c array security nack .control) load
+read-good Standby c load array security nack is good = good
+read-good Busy c load array security nack is good = good
+read-good AwaitsAddress c load array security nack is good = good
+read-good AwaitsChoice c load array security nack is good = good
+read-good (AwaitsWord word) c load array security nack is good = good
+read-good (TakesData kind) c load array security nack is good = good
+read-good (SendsByte source) c load array security nack is good =
+    let moved = moved-good source c load is good in
+    reply-good (movedPast source c) load (moved .0) (still-sends source c load is good) nack moved

@@ -1,0 +1,126 @@
+-- A byte sent keeps the clauses: counters come from a remainder or go round their page, which is inside the region, and whoever
+-- stops taking data drops its load.
+use Prim.Native.Nat.{ℕ, _<_}
+use mathlib.Core.Bool.{Bool, true, false, cond, _&&_}
+use mathlib.Core.Path.{_≡_, refl}
+use borrow.Author.Tests.{ltb-true}
+use Rattle.parts.specs.Part.{geometryOf, Sound}
+use Rattle.parts.proofs.part.Laws.{sound-of}
+use Rattle.regions.proofs.page.Laws.{place-below, next-inside}
+use Rattle.regions.proofs.counter.Laws.{array-counter-below, security-counter-below}
+use Rattle.load.specs.declared.Load.{Load}
+use Rattle.load.specs.Load.{emptied, within}
+use Rattle.load.proofs.Laws.{within-emptied, within-put}
+use Rattle.control.specs.declared.Control.{Control}
+use Rattle.control.specs.declared.Answered.{Answered}
+use Rattle.control.specs.declared.phase.Phase.{Phase}
+use Rattle.control.specs.declared.phase.Phase.the-variants.{Standby, Busy, AwaitsAddress, AwaitsChoice, AwaitsWord, TakesData, SendsByte}
+use Rattle.control.specs.declared.phase.Word.{Word}
+use Rattle.control.specs.declared.phase.Word.the-variants.{ArrayFirst, ArraySecond, RegisterFirst, RegisterSecond}
+use Rattle.control.specs.declared.phase.Data.{Data}
+use Rattle.control.specs.declared.phase.Data.the-variants.{ToArray, ToSecurity, ToConfiguration, ToLock, ToNowhere}
+use Rattle.control.specs.declared.phase.Came.the-variants.{Zero}
+use Rattle.control.specs.declared.phase.Source.the-variants.{FromArray, FromId}
+use Rattle.control.specs.declared.phase.Shown.{Shown}
+use Rattle.control.specs.declared.phase.Shown.the-variants.{ShowsSecurity, ShowsConfiguration, ShowsNothing}
+use Rattle.control.specs.Control.{inPhase, showing, choosing}
+use Rattle.control.specs.Said.{acked, silent}
+use Rattle.address.specs.declared.Call.{Call}
+use Rattle.address.specs.declared.Call.the-variants.{ReadArray, WriteArray, ReadRegister, WriteRegister, HostF8, HostF9, Nobody}
+use Rattle.address.specs.Address.{callOf, sourceOf, takeCall, takeAddress, takeChosen, takeChoice}
+use Rattle.words.specs.declared.Register.{Register}
+use Rattle.words.specs.declared.Register.the-variants.{Security, Configuration, Lock, Nowhere}
+use Rattle.words.specs.Word.{registerOf, isLock, takeNamed, takeWord}
+use Rattle.taking.specs.Taking.{takeData, takeIn}
+use Rattle.chip.specs.Chip as chip
+use Rattle.wellformed.specs.Wellformed.{idPlaceFits}
+use Rattle.wellformed.proofs.Fits.{Fits, in-phase-fits, showing-fits, choosing-fits, array-fits, security-fits}
+use Rattle.load.specs.Load.{empty}
+use Rattle.wellformed.proofs.Good.{Good, page, either, dropped, standby, begins}
+
+source-fits : (shown : Shown) → idPlaceFits (sourceOf shown) ≡ true
+source-fits ShowsSecurity = refl
+source-fits ShowsConfiguration = refl
+source-fits ShowsNothing = refl
+
+module _ (c : Control) (load : Load) (f : Fits c) (empty : within 0 load ≡ true) where
+  call-good : (call : Call) → Good (takeCall call c .control) load
+  call-good ReadArray = (in-phase-fits _ (dropped c f) (SendsByte FromArray) refl refl, empty)
+  call-good (WriteArray a16) = (in-phase-fits _ (dropped c f) (AwaitsWord (ArrayFirst a16)) refl refl, empty)
+  call-good ReadRegister = (in-phase-fits _ (dropped c f) (SendsByte (sourceOf (c .shown))) (source-fits (c .shown)) refl, empty)
+  call-good WriteRegister = (in-phase-fits _ (dropped c f) (AwaitsWord RegisterFirst) refl refl, empty)
+  call-good HostF8 = (in-phase-fits _ (dropped c f) AwaitsChoice refl refl, empty)
+  call-good HostF9 =
+      either (λ (x : Answered). Good (x .control) load) (c .chosen) (acked (SendsByte (FromId 0)) c) (silent Standby c)
+      (in-phase-fits c f (SendsByte (FromId 0)) refl refl, empty)
+      (standby c load f empty)
+  call-good Nobody = standby _ load (dropped c f) empty
+
+  picked : Good (inPhase Standby (choosing true c)) load
+  picked = (choosing-fits (inPhase Standby c) (in-phase-fits c f Standby refl refl) true refl, empty)
+
+  chosen-good : (call : Call) → Good (takeChosen call c .control) load
+  chosen-good ReadArray = picked
+  chosen-good (WriteArray a16) = picked
+  chosen-good ReadRegister = standby c load f empty
+  chosen-good WriteRegister = standby c load f empty
+  chosen-good HostF8 = standby c load f empty
+  chosen-good HostF9 = standby c load f empty
+  chosen-good Nobody = standby c load f empty
+
+  named-good : (register : Register) (first byte : ℕ) → Good (takeNamed register first c byte .control) load
+  named-good Security first byte =
+      let set = security-fits c f _ (security-counter-below _ (sound-of (c .part)) false first byte) in
+      begins _ load (showing-fits _ set ShowsSecurity) empty ToSecurity
+  named-good Configuration first byte = begins _ load (showing-fits c f ShowsConfiguration) empty (ToConfiguration Zero)
+  named-good Lock first byte =
+      either (λ (x : Answered). Good (x .control) load) (c .locked) (silent Standby c) (acked (TakesData (ToLock false)) (showing ShowsNothing c))
+      (standby c load f empty)
+      (begins _ load (showing-fits c f ShowsNothing) empty (ToLock false))
+  named-good Nowhere first byte = begins _ load (showing-fits c f ShowsNothing) empty ToNowhere
+
+  word-good : (word : Word) (byte : ℕ) → Good (takeWord word c byte .control) load
+  word-good (ArrayFirst a16) byte = (in-phase-fits c f (AwaitsWord (ArraySecond a16 byte)) refl refl, empty)
+  word-good (ArraySecond a16 first) byte =
+      begins _ load (array-fits c f _ (array-counter-below _ (sound-of (c .part)) a16 first byte)) empty ToArray
+  word-good RegisterFirst byte =
+      either (λ (x : Answered). Good (x .control) load) (c .locked && isLock (registerOf byte)) (silent Standby c) (acked (AwaitsWord (RegisterSecond byte)) c)
+      (standby c load f empty)
+      (in-phase-fits c f (AwaitsWord (RegisterSecond byte)) refl refl, empty)
+  word-good (RegisterSecond first) byte = named-good (registerOf first) first byte
+
+module _ (c : Control) (load : Load) (f : Fits c) (paged : within (page c) load ≡ true) where
+  sound : Sound (geometryOf (c .part))
+  sound = sound-of (c .part)
+
+  -- a byte more of the same kind of data
+  more : (kind : Data) → Good (inPhase (TakesData kind) c) load
+  more kind = (in-phase-fits c f (TakesData kind) refl refl, paged)
+
+  lock-good : (locked : Bool) → Good (cond locked (silent Standby c) (acked (TakesData (ToLock true)) c) .control) (cond locked (emptied load) load)
+  lock-good true = standby c (emptied load) f (within-emptied 0 load)
+  lock-good false = more (ToLock true)
+
+  data-good : (kind : Data) (byte : ℕ) → Good (takeData kind c byte .control) (chip.put kind load c byte)
+  data-good ToArray byte =
+      let inside : c .array < geometryOf (c .part) .array = ltb-true _ _ (f .array) in
+      let moved = array-fits c f _ (next-inside _ sound (c .array) (geometryOf (c .part) .array) (sound .array-whole) inside) in
+      (in-phase-fits _ moved (TakesData ToArray) refl refl, within-put (geometryOf (c .part)) (c .array) byte (page c) load (place-below _ sound (c .array)) paged)
+  data-good ToSecurity byte =
+      let inside : c .security < geometryOf (c .part) .security = ltb-true _ _ (f .security) in
+      let moved = security-fits c f _ (next-inside _ sound (c .security) (geometryOf (c .part) .security) (sound .security-whole) inside) in
+      (in-phase-fits _ moved (TakesData ToSecurity) refl refl, within-put (geometryOf (c .part)) (c .security) byte (page c) load (place-below _ sound (c .security)) paged)
+  data-good (ToConfiguration came) byte = more _
+  data-good (ToLock some) byte = lock-good (c .locked)
+  data-good ToNowhere byte = more _
+
+-- a byte sent
+pub take-good : (phase : Phase) (c : Control) (load : Load) (byte : ℕ) → c .phase ≡ phase → Good c load → Good (takeIn phase c byte .control) (chip.loadedIn phase load c byte)
+unfolding takeAddress takeChoice
+take-good Standby c load byte is good = good
+take-good Busy c load byte is good = good
+take-good AwaitsAddress c load byte is good = call-good c load (good .0) (rw is at (good .1)) (callOf (geometryOf (c .part)) (c .strap) byte)
+take-good AwaitsChoice c load byte is good = chosen-good c load (good .0) (rw is at (good .1)) (callOf (geometryOf (c .part)) (c .strap) byte)
+take-good (AwaitsWord word) c load byte is good = word-good c load (good .0) (rw is at (good .1)) word byte
+take-good (TakesData kind) c load byte is good = data-good c load (good .0) (rw is at (good .1)) kind byte
+take-good (SendsByte source) c load byte is good = good

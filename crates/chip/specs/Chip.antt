@@ -14,6 +14,7 @@ use Rattle.control.specs.declared.phase.Data.the-variants.{ToArray, ToSecurity,
 use Rattle.control.specs.declared.phase.Shown.the-variants.{ShowsSecurity}
 use Rattle.control.specs.Phase.{isBusy}
 use Rattle.control.specs.Control as control
+use Rattle.control.specs.Exchange.{poweredUp}
 use Rattle.taking.specs.Taking as taking
 use Rattle.sending.specs.Sending as sending
 use Rattle.cycle.specs.Stop as cycle
@@ -36,33 +37,11 @@ start c =
     cond (isBusy (c .control .phase)) c
     (record { control = control.inPhase AwaitsAddress (c .control); load = load.emptied (c .load) })
 
--- Data: a byte for the array or the security register is loaded at its counter's place; nothing is stored yet. Lock data on a
--- locked page ends the exchange, and any load with it
-abbrev pub put : Data → Load → Control → ℕ → Load
-put ToArray held c byte = load.put (geometryOf (c .part)) (c .array) byte held
-put ToSecurity held c byte = load.put (geometryOf (c .part)) (c .security) byte held
-put (ToConfiguration came) held c byte = held
-put (ToLock some) held c byte = cond (c .locked) (load.emptied held) held
-put ToNowhere held c byte = held
-
-abbrev pub loadedIn : Phase → Load → Control → ℕ → Load
-loadedIn Standby held c byte = held
-loadedIn Busy held c byte = held
-loadedIn AwaitsAddress held c byte = held
-loadedIn AwaitsChoice held c byte = held
-loadedIn (AwaitsWord word) held c byte = held
-loadedIn (TakesData kind) held c byte = put kind held c byte
-loadedIn (SendsByte source) held c byte = held
-
--- the load after a byte sent
-unfoldable pub loaded : Load → Control → ℕ → Load
-loaded held c byte = loadedIn (c .phase) held c byte
-
 -- a byte sent by the host
 abbrev pub take : Chip → ℕ → Stepped
 take c byte =
     record {
-      chip = record { control = taking.take (c .control) byte .control; load = loaded (c .load) (c .control) byte };
+      chip = record { control = taking.take (c .control) byte .control; load = taking.loaded (c .load) (c .control) byte };
       said = taking.take (c .control) byte .said;
     }
 
@@ -92,13 +71,7 @@ abbrev pub cycleOver : Chip → Chip
 cycleOver c =
     cond (isBusy (c .control .phase)) (record { control = control.inPhase Standby (c .control); load = c .load }) c
 
--- Power up: phase, load, choice and busy mark are cleared, counters 0, a 1011 read shows the security register; stores, registers
--- and WP level stay
-abbrev pub poweredUp : Control → Control
-poweredUp c =
-    control.inPhase Standby
-    (control.showing ShowsSecurity (control.securityAt 0 (control.arrayAt 0 (control.choosing false c))))
-
+-- Power up: phase, load, choice and busy mark are cleared, counters 0; stores, registers and WP level stay
 abbrev pub powerUp : Chip → Chip
 powerUp c = record { control = poweredUp (c .control); load = load.emptied (c .load) }
 

@@ -4,13 +4,11 @@ pub mod event;
 use crate::event::Event;
 use control::Control;
 use control::Said;
-use control::phase::Data;
 use control::phase::Phase;
-use control::phase::Shown;
 use control::phase::is_busy;
 use load::Load;
 ghost use mathlib.Core.Path.{_≡_};
-ghost use Rattle.chip.specs.Chip.{fresh, quiet, start, put, loaded, take, read, stop, wp, cycleOver, poweredUp, powerUp, step};
+ghost use Rattle.chip.specs.Chip.{fresh, quiet, start, take, read, stop, wp, cycleOver, powerUp, step};
 
 pub struct Chip {
     pub control: Control,
@@ -60,7 +58,7 @@ impl Chip {
         Stepped {
             chip: Chip {
                 control: next,
-                load: loaded(load, control, byte),
+                load: taking::loaded(load, control, byte),
             },
             said,
         }
@@ -136,7 +134,7 @@ impl Chip {
         let control = self.control;
         let load = self.load;
         Chip {
-            control: powered_up(control),
+            control: control.powered_up(),
             load: load.emptied(),
         }
     }
@@ -165,43 +163,4 @@ fn quiet(chip: Chip) -> Stepped
         chip,
         said: Said::Nothing,
     }
-}
-
-// A data byte goes into the load where it is for the array or the security register. On a locked page lock data ends the
-// exchange, and any load with it.
-fn put(kind: Data, load: Load, c: Control, byte: u8) -> Load
-    ensures { λ r. ⌜ r ≡ put kind load c byte ⌝ }
-{
-    match kind {
-        Data::ToArray => load.put(c.part, c.array, byte),
-        Data::ToSecurity => load.put(c.part, c.security, byte),
-        Data::ToConfiguration(_) => load,
-        Data::ToLock(_) => { if c.locked { load.emptied() } else { load } }
-        Data::ToNowhere => load,
-    }
-}
-
-// The load after a byte sent.
-fn loaded(load: Load, c: Control, byte: u8) -> Load
-    ensures { λ r. ⌜ r ≡ loaded load c byte ⌝ }
-{
-    let phase = c.phase;
-    match phase {
-        Phase::Standby => load,
-        Phase::Busy => load,
-        Phase::AwaitsAddress => load,
-        Phase::AwaitsChoice => load,
-        Phase::AwaitsWord(_) => load,
-        Phase::TakesData(kind) => put(kind, load, c, byte),
-        Phase::SendsByte(_) => load,
-    }
-}
-
-fn powered_up(c: Control) -> Control
-    ensures { λ r. ⌜ r ≡ poweredUp c ⌝ }
-{
-    let cleared = c.choosing(false).array_at(0).security_at(0);
-    cleared
-        .showing(Shown::ShowsSecurity)
-        .in_phase(Phase::Standby)
 }

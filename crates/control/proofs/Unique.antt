@@ -24,6 +24,12 @@ use Rattle.control.proofs.Control.silent.Kinds as silent-kinds
 use Rattle.control.proofs.Control.silent.Reads as silent-reads
 use Rattle.control.proofs.Control.stays.Kinds as stays-kinds
 use Rattle.control.proofs.Control.stays.Reads as stays-reads
+use Rattle.control.proofs.Control.ended.Kinds as ended-kinds
+use Rattle.control.proofs.Control.ended.Reads as ended-reads
+use Rattle.control.proofs.Control.started.Kinds as started-kinds
+use Rattle.control.proofs.Control.started.Reads as started-reads
+use Rattle.control.proofs.Control.powered_up.Kinds as powered-up-kinds
+use Rattle.control.proofs.Control.powered_up.Reads as powered-up-reads
 use Rattle.control.proofs.phase.is_busy.Kinds as is-busy-kinds
 use Rattle.control.proofs.phase.is_busy.Reads as is-busy-reads
 use Rattle.control.proofs.phase.takes_data.Kinds as takes-data-kinds
@@ -64,6 +70,15 @@ silent-unique κs args x y at-x at-y = same
 
 pub stays-unique : Unique stays-kinds.ps stays-kinds.r stays-reads.Post
 stays-unique κs args x y at-x at-y = same
+
+pub ended-unique : Unique ended-kinds.ps ended-kinds.r ended-reads.Post
+ended-unique κs args x y at-x at-y = same
+
+pub started-unique : Unique started-kinds.ps started-kinds.r started-reads.Post
+started-unique κs args x y at-x at-y = same
+
+pub powered-up-unique : Unique powered-up-kinds.ps powered-up-kinds.r powered-up-reads.Post
+powered-up-unique κs args x y at-x at-y = same
 
 pub is-busy-unique : Unique is-busy-kinds.ps is-busy-kinds.r is-busy-reads.Post
 is-busy-unique κs args x y at-x at-y = same

@@ -1,3 +1,4 @@
 pub mod Phase
 pub mod Control
 pub mod Said
+pub mod Exchange

@@ -5,6 +5,7 @@ use crate::phase::Phase;
 use crate::phase::Shown;
 ghost use mathlib.Core.Path.{_≡_};
 ghost use Rattle.control.specs.Control.{fresh, inPhase, showing, choosing, arrayAt, securityAt, lockedNow, configured, wpAt};
+ghost use Rattle.control.specs.Exchange.{ended, started, poweredUp};
 ghost use Rattle.control.specs.Said.{acked, silent, stays};
 
 // Part and strap are raw numbers, since a malformed state may hold any. The counters are `array` and `security`.
@@ -171,5 +172,29 @@ impl Control {
             control: self,
             said: Said::Nothing,
         }
+    }
+
+    // The exchange is over without a cycle: standby until the next Start. However one ends, the choice is dropped.
+    pub fn ended(self) -> Control
+        ensures { λ r. ⌜ r ≡ ended self ⌝ }
+    {
+        self.choosing(false).in_phase(Phase::Standby)
+    }
+
+    // A write cycle runs: busy until event 07 or 08.
+    pub fn started(self) -> Control
+        ensures { λ r. ⌜ r ≡ started self ⌝ }
+    {
+        self.choosing(false).in_phase(Phase::Busy)
+    }
+
+    // Registers and the WP level stay.
+    pub fn powered_up(self) -> Control
+        ensures { λ r. ⌜ r ≡ poweredUp self ⌝ }
+    {
+        let cleared = self.choosing(false).array_at(0).security_at(0);
+        cleared
+            .showing(Shown::ShowsSecurity)
+            .in_phase(Phase::Standby)
     }
 }

@@ -13,9 +13,9 @@ use Rattle.control.specs.declared.phase.Phase.the-variants.{Standby, Busy, Awai
 use Rattle.control.specs.declared.phase.Data.{Data}
 use Rattle.control.specs.declared.phase.Data.the-variants.{ToArray, ToSecurity, ToConfiguration, ToLock, ToNowhere}
 use Rattle.control.specs.Control.{lockedNow}
-use Rattle.cycle.specs.Exchange.{ended, started}
-use Rattle.cycle.specs.Protection.{isProtected, idPageProtected}
-use Rattle.cycle.specs.Configuration.{stopConfiguration}
+use Rattle.control.specs.Exchange.{ended, started}
+use Rattle.protection.specs.Protection.{isProtected, idPageProtected}
+use Rattle.configuration.specs.Configuration.{stopConfiguration}
 
 -- with at least one data byte and the page not protected at this moment
 abbrev pub writesArray : Control → Load → Bool

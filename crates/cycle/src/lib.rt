@@ -1,17 +1,12 @@
 // What a Stop does: it starts a write cycle, or ends the exchange without one (paper, "Stop", "Protection", "Security register"
 // and "Configuration").
-pub mod configuration;
-pub mod exchange;
-pub mod protection;
-
-use crate::exchange::ended;
-use crate::exchange::started;
-use crate::protection::id_page_protected;
-use crate::protection::is_protected;
+use configuration::stop_configuration;
 use control::Control;
 use control::phase::Data;
 use control::phase::Phase;
 use load::Load;
+use protection::id_page_protected;
+use protection::is_protected;
 use regions::page::in_id_page;
 ghost use mathlib.Core.Path.{_≡_};
 ghost use Rattle.cycle.specs.Stop.{writesArray, writesSecurity, stopArray, stopSecurity, stopLock, stopData, stop};
@@ -39,9 +34,9 @@ fn stop_array(c: Control, load: Load, array: &mut [u8]) -> Control
 {
     if writes_array(c, load) {
         load.store_page(c.part, c.array, array);
-        return started(c);
+        return c.started();
     }
-    ended(c)
+    c.ended()
 }
 
 fn stop_security(c: Control, load: Load, security: &mut [u8]) -> Control
@@ -49,9 +44,9 @@ fn stop_security(c: Control, load: Load, security: &mut [u8]) -> Control
 {
     if writes_security(c, load) {
         load.store_page(c.part, c.security, security);
-        return started(c);
+        return c.started();
     }
-    ended(c)
+    c.ended()
 }
 
 // With at least one data byte, on a page that is not locked yet.
@@ -60,9 +55,9 @@ fn stop_lock(some: bool, c: Control) -> Control
 {
     let free = !c.locked;
     if base::test::and(some, free) {
-        started(c.locked_now())
+        c.locked_now().started()
     } else {
-        ended(c)
+        c.ended()
     }
 }
 
@@ -72,9 +67,9 @@ fn stop_data(kind: Data, c: Control, load: Load, array: &mut [u8], security: &mu
     match kind {
         Data::ToArray => stop_array(c, load, array),
         Data::ToSecurity => stop_security(c, load, security),
-        Data::ToConfiguration(came) => configuration::stop_configuration(came, c),
+        Data::ToConfiguration(came) => stop_configuration(came, c),
         Data::ToLock(some) => stop_lock(some, c),
-        Data::ToNowhere => ended(c),
+        Data::ToNowhere => c.ended(),
     }
 }
 
@@ -84,12 +79,12 @@ pub fn stop(c: Control, load: Load, array: &mut [u8], security: &mut [u8]) -> Co
 {
     let phase = c.phase;
     match phase {
-        Phase::Standby => ended(c),
+        Phase::Standby => c.ended(),
         Phase::Busy => c,
-        Phase::AwaitsAddress => ended(c),
-        Phase::AwaitsChoice => ended(c),
-        Phase::AwaitsWord(_) => ended(c),
+        Phase::AwaitsAddress => c.ended(),
+        Phase::AwaitsChoice => c.ended(),
+        Phase::AwaitsWord(_) => c.ended(),
         Phase::TakesData(kind) => stop_data(kind, c, load, array, security),
-        Phase::SendsByte(_) => ended(c),
+        Phase::SendsByte(_) => c.ended(),
     }
 }

@@ -4,6 +4,8 @@ use Prim.Native.Nat.{ℕ}
 use mathlib.Core.Bool.{Bool, true, false, cond}
 use Rattle.parts.specs.Part.{geometryOf}
 use Rattle.regions.specs.Page.{nextInPage}
+use Rattle.load.specs.declared.Load.{Load}
+use Rattle.load.specs.Load as load
 use Rattle.control.specs.declared.Control.{Control}
 use Rattle.control.specs.declared.Answered.{Answered}
 use Rattle.control.specs.declared.phase.Phase.{Phase}
@@ -50,3 +52,25 @@ takeIn (SendsByte source) c byte = stays c
 
 unfoldable pub take : Control → ℕ → Answered
 take c byte = takeIn (c .phase) c byte
+
+-- Data: a byte for the array or the security register is loaded at its counter's place; nothing is stored yet. Lock data on a
+-- locked page ends the exchange, and any load with it
+abbrev pub put : Data → Load → Control → ℕ → Load
+put ToArray held c byte = load.put (geometryOf (c .part)) (c .array) byte held
+put ToSecurity held c byte = load.put (geometryOf (c .part)) (c .security) byte held
+put (ToConfiguration came) held c byte = held
+put (ToLock some) held c byte = cond (c .locked) (load.emptied held) held
+put ToNowhere held c byte = held
+
+abbrev pub loadedIn : Phase → Load → Control → ℕ → Load
+loadedIn Standby held c byte = held
+loadedIn Busy held c byte = held
+loadedIn AwaitsAddress held c byte = held
+loadedIn AwaitsChoice held c byte = held
+loadedIn (AwaitsWord word) held c byte = held
+loadedIn (TakesData kind) held c byte = put kind held c byte
+loadedIn (SendsByte source) held c byte = held
+
+-- the load after a byte sent
+unfoldable pub loaded : Load → Control → ℕ → Load
+loaded held c byte = loadedIn (c .phase) held c byte

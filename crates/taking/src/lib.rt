@@ -7,10 +7,11 @@ use control::Control;
 use control::phase::Came;
 use control::phase::Data;
 use control::phase::Phase;
+use load::Load;
 use regions::page::next_in_page;
 use words::take_word;
 ghost use mathlib.Core.Path.{_≡_};
-ghost use Rattle.taking.specs.Taking.{cameMore, takeLockData, takeData, take};
+ghost use Rattle.taking.specs.Taking.{cameMore, takeLockData, takeData, take, put, loaded};
 
 // One byte more for the configuration register.
 fn came_more(came: Came, byte: u8) -> Came
@@ -71,5 +72,35 @@ pub fn take(c: Control, byte: u8) -> Answered
         Phase::AwaitsWord(word) => take_word(word, c, byte),
         Phase::TakesData(kind) => take_data(kind, c, byte),
         Phase::SendsByte(_) => c.stays(),
+    }
+}
+
+// A data byte goes into the load where it is for the array or the security register. On a locked page lock data ends the
+// exchange, and any load with it.
+fn put(kind: Data, load: Load, c: Control, byte: u8) -> Load
+    ensures { λ r. ⌜ r ≡ put kind load c byte ⌝ }
+{
+    match kind {
+        Data::ToArray => load.put(c.part, c.array, byte),
+        Data::ToSecurity => load.put(c.part, c.security, byte),
+        Data::ToConfiguration(_) => load,
+        Data::ToLock(_) => { if c.locked { load.emptied() } else { load } }
+        Data::ToNowhere => load,
+    }
+}
+
+// The load after a byte sent.
+pub fn loaded(load: Load, c: Control, byte: u8) -> Load
+    ensures { λ r. ⌜ r ≡ loaded load c byte ⌝ }
+{
+    let phase = c.phase;
+    match phase {
+        Phase::Standby => load,
+        Phase::Busy => load,
+        Phase::AwaitsAddress => load,
+        Phase::AwaitsChoice => load,
+        Phase::AwaitsWord(_) => load,
+        Phase::TakesData(kind) => put(kind, load, c, byte),
+        Phase::SendsByte(_) => load,
     }
 }

@@ -12,7 +12,7 @@ use Rattle.control.specs.declared.phase.Phase.the-variants.{Standby, Busy, Take
 use Rattle.control.specs.declared.phase.Data.{Data}
 use Rattle.control.specs.Phase.{isBusy}
 use Rattle.control.specs.Control.{inPhase, choosing}
-use Rattle.cycle.specs.Exchange.{ended, started}
+use Rattle.control.specs.Exchange.{ended, started}
 use Rattle.wellformed.specs.Wellformed.{loadMost}
 use Rattle.wellformed.proofs.Fits.{Fits, together, in-phase-fits, choosing-fits}
 use Rattle.load.specs.Load.{empty}

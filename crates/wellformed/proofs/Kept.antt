@@ -11,7 +11,7 @@ use Rattle.control.specs.declared.phase.Phase.the-variants.{Standby, Busy, Awai
 use Rattle.control.specs.declared.phase.Shown.the-variants.{ShowsSecurity}
 use Rattle.control.specs.Phase.{isBusy}
 use Rattle.control.specs.Control.{inPhase}
-use Rattle.taking.specs.Taking.{take}
+use Rattle.taking.specs.Taking.{take, loaded}
 use Rattle.sending.specs.Sending.{read}
 use Rattle.cycle.specs.Stop.{stop}
 use Rattle.chip.specs.declared.Chip.{Chip}
@@ -69,7 +69,7 @@ module _ (c : Chip) (array security : List ℕ) (good : Good (c .control) (c .lo
       emptied-good _ (c .load) (in-phase-fits _ (showing-fits _ counted ShowsSecurity) Standby refl refl)
 
   step-good : (event : Event) → Good (chip.step c array security event .0 .chip .control) (chip.step c array security event .0 .chip .load)
-  unfolding chip.step chip.loaded take read
+  unfolding chip.step loaded take read
   step-good Start = start-good
   step-good Stop = stop-good
   step-good (Sent byte) = take-good (c .control .phase) (c .control) (c .load) byte refl good

@@ -13,9 +13,9 @@ use Rattle.control.specs.declared.phase.Data.the-variants.{ToArray, ToSecurity,
 use Rattle.control.specs.declared.phase.Came.{Came}
 use Rattle.control.specs.declared.phase.Came.the-variants.{Zero, One, Two, Three, More}
 use Rattle.control.specs.Control.{lockedNow, configured}
-use Rattle.cycle.specs.Exchange.{ended, started}
-use Rattle.cycle.specs.Protection.{lock}
-use Rattle.cycle.specs.Configuration.{confirms, stopConfiguration}
+use Rattle.control.specs.Exchange.{ended, started}
+use Rattle.protection.specs.Protection.{lock}
+use Rattle.configuration.specs.Configuration.{confirms, stopConfiguration}
 use Rattle.cycle.specs.Stop.{writesArray, writesSecurity, stopData, stopIn}
 use Rattle.chip.specs.declared.event.Event.the-variants.{Stop}
 use Rattle.wellformed.proofs.Fits.{Fits, locked-fits, configured-fits}

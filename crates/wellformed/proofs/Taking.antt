@@ -31,8 +31,7 @@ use Rattle.address.specs.Address.{callOf, sourceOf, takeCall, takeAddress, take
 use Rattle.words.specs.declared.Register.{Register}
 use Rattle.words.specs.declared.Register.the-variants.{Security, Configuration, Lock, Nowhere}
 use Rattle.words.specs.Word.{registerOf, isLock, takeNamed, takeWord}
-use Rattle.taking.specs.Taking.{takeData, takeIn}
-use Rattle.chip.specs.Chip as chip
+use Rattle.taking.specs.Taking.{takeData, takeIn, put, loadedIn}
 use Rattle.wellformed.specs.Wellformed.{idPlaceFits}
 use Rattle.wellformed.proofs.Fits.{Fits, in-phase-fits, showing-fits, choosing-fits, array-fits, security-fits}
 use Rattle.load.specs.Load.{empty}
@@ -101,7 +100,7 @@ module _ (c : Control) (load : Load) (f : Fits c) (paged : within (page c) load 
   lock-good true = standby c (emptied load) f (within-emptied 0 load)
   lock-good false = more (ToLock true)
 
-  data-good : (kind : Data) (byte : ℕ) → Good (takeData kind c byte .control) (chip.put kind load c byte)
+  data-good : (kind : Data) (byte : ℕ) → Good (takeData kind c byte .control) (put kind load c byte)
   data-good ToArray byte =
       let inside : c .array < geometryOf (c .part) .array = ltb-true _ _ (f .array) in
       let moved = array-fits c f _ (next-inside _ sound (c .array) (geometryOf (c .part) .array) (sound .array-whole) inside) in
@@ -115,7 +114,7 @@ module _ (c : Control) (load : Load) (f : Fits c) (paged : within (page c) load 
   data-good ToNowhere byte = more _
 
 -- a byte sent
-pub take-good : (phase : Phase) (c : Control) (load : Load) (byte : ℕ) → c .phase ≡ phase → Good c load → Good (takeIn phase c byte .control) (chip.loadedIn phase load c byte)
+pub take-good : (phase : Phase) (c : Control) (load : Load) (byte : ℕ) → c .phase ≡ phase → Good c load → Good (takeIn phase c byte .control) (loadedIn phase load c byte)
 unfolding takeAddress takeChoice
 take-good Standby c load byte is good = good
 take-good Busy c load byte is good = good

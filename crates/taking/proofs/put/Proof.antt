@@ -1,6 +1,6 @@
 use borrow.Author.Needs.{needs}
-use Rattle.chip.proofs.put.Statement.{statement}
-use Rattle.chip.proofs.put.Tie as tie
+use Rattle.taking.proofs.put.Statement.{statement}
+use Rattle.taking.proofs.put.Tie as tie
 
 enum-told : tie.Need-enum-told
 enum-told c = search needs

@@ -1,7 +1,7 @@
 use mathlib.Core.Path.{_∙_, sym}
 use borrow.Author.Needs.{needs}
-use Rattle.cycle.proofs.protection.is_protected.Statement.{statement}
-use Rattle.cycle.proofs.protection.is_protected.Tie as tie
+use Rattle.protection.proofs.is_protected.Statement.{statement}
+use Rattle.protection.proofs.is_protected.Tie as tie
 
 bit-of-requires : tie.Need-bit-of-requires
 bit-of-requires c κs = search needs

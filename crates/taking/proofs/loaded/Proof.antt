@@ -1,12 +1,12 @@
-use Rattle.chip.specs.Chip.{loadedIn, loaded}
+use Rattle.taking.specs.Taking.{loadedIn, loaded}
 use Rattle.load.specs.declared.Load.{Load}
 use Rattle.control.specs.declared.phase.Phase.{Phase}
 use Rattle.control.specs.declared.Control.{Control}
 use mathlib.Core.Path.{_≡_, _∙_, ap, sym}
 use Prim.Native.Nat.{ℕ}
 use borrow.Author.Needs.{needs}
-use Rattle.chip.proofs.loaded.Statement.{statement}
-use Rattle.chip.proofs.loaded.Tie as tie
+use Rattle.taking.proofs.loaded.Statement.{statement}
+use Rattle.taking.proofs.loaded.Tie as tie
 
 met : (held : Load) (c : Control) (byte : ℕ) {phase : Phase} → c .phase ≡ phase → loadedIn phase held c byte ≡ loaded held c byte
 unfolding loaded

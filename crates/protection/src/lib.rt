@@ -3,7 +3,7 @@ use base::bit::bit_of;
 use control::Control;
 use regions::zone::zone_of;
 ghost use mathlib.Core.Path.{_≡_};
-ghost use Rattle.cycle.specs.Protection.{isProtected, idPageProtected};
+ghost use Rattle.protection.specs.Protection.{isProtected, idPageProtected};
 
 // Bit 1 of configuration byte 0.
 const EWPM: u32 = 1;

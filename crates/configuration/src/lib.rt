@@ -1,11 +1,9 @@
 // Writing the configuration register: two bytes and a confirmation, no more and no less (paper, "Configuration"; sheets 9.3, 9.5).
-use crate::exchange::ended;
-use crate::exchange::started;
 use base::bit::bit_of;
 use control::Control;
 use control::phase::Came;
 ghost use mathlib.Core.Path.{_≡_};
-ghost use Rattle.cycle.specs.Configuration.{confirms, configure, stopConfiguration};
+ghost use Rattle.configuration.specs.Configuration.{confirms, configure, stopConfiguration};
 
 // Bit 0 of configuration byte 0.
 const LOCK: u32 = 0;
@@ -33,9 +31,9 @@ fn configure(first: u8, second: u8, third: u8, c: Control) -> Control
 {
     let free = !bit_of(c.config0, LOCK);
     if base::test::and(confirms(first, third), free) {
-        started(c.configured(first % WRITABLE, second))
+        c.configured(first % WRITABLE, second).started()
     } else {
-        ended(c)
+        c.ended()
     }
 }
 
@@ -43,10 +41,10 @@ pub fn stop_configuration(came: Came, c: Control) -> Control
     ensures { λ r. ⌜ r ≡ stopConfiguration came c ⌝ }
 {
     match came {
-        Came::Zero => ended(c),
-        Came::One(_) => ended(c),
-        Came::Two(_, _) => ended(c),
+        Came::Zero => c.ended(),
+        Came::One(_) => c.ended(),
+        Came::Two(_, _) => c.ended(),
         Came::Three(first, second, third) => configure(first, second, third, c),
-        Came::More => ended(c),
+        Came::More => c.ended(),
     }
 }

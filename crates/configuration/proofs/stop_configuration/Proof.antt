@@ -1,6 +1,6 @@
 use borrow.Author.Needs.{needs}
-use Rattle.cycle.proofs.configuration.stop_configuration.Statement.{statement}
-use Rattle.cycle.proofs.configuration.stop_configuration.Tie as tie
+use Rattle.configuration.proofs.stop_configuration.Statement.{statement}
+use Rattle.configuration.proofs.stop_configuration.Tie as tie
 
 enum-told : tie.Need-enum-told
 enum-told c = search needs

@@ -1,6 +1,6 @@
 use borrow.Author.Needs.{needs}
-use Rattle.chip.proofs.powered_up.Statement.{statement}
-use Rattle.chip.proofs.powered_up.Tie as tie
+use Rattle.control.proofs.Control.powered_up.Statement.{statement}
+use Rattle.control.proofs.Control.powered_up.Tie as tie
 
 choosing-requires : tie.Need-choosing-requires
 choosing-requires c κs = search needs

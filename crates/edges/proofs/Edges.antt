@@ -1,0 +1,100 @@
+-- The paper's edges marked (P), computed from the definitions: one list, one theorem ("On both sides of each edge").
+use Prim.Native.Nat.{ℕ, zero, suc, _+_}
+use mathlib.Core.Bool.{Bool, true, false, cond}
+use mathlib.Core.List.{List, [], _∷_, _++_, map}
+use mathlib.Core.Path.{_≡_, refl}
+use lib.ListN.{replicate, set, getD}
+use Rattle.base.specs.Fold.{upTo}
+use Rattle.parts.specs.Part.{geometry24CSM01, geometry24CS32, geometryOf}
+use Rattle.parts.specs.Address.{shareAddress}
+use Rattle.regions.specs.Zone.{zoneOf}
+use Rattle.regions.specs.Counter.{counterIn}
+use Rattle.load.specs.Load.{holds, storePage}
+use Rattle.control.specs.Said.{replyOf}
+use Rattle.address.specs.Address.{callOf, takeAddress, takeChoice}
+use Rattle.taking.specs.Taking.{take, loaded}
+use Rattle.sending.specs.Sending.{read}
+use Rattle.cycle.specs.Stop.{stop}
+use Rattle.chip.specs.declared.Stepped.{Stepped}
+use Rattle.chip.specs.declared.event.Event.{Event}
+use Rattle.chip.specs.declared.event.Event.the-variants.{Start, Stop, Sent, Read}
+use Rattle.chip.specs.Chip.{fresh, quiet, step}
+use Rattle.edges.specs.Played.{played}
+
+abbrev m01 : ℕ
+m01 = 1
+
+abbrev cs32 : ℕ
+cs32 = 2
+
+-- a 24CS32 at strap 0 that holds only 5Ah at 000h, and FFh elsewhere, after some events
+abbrev after : List Event → Stepped × List ℕ × List ℕ
+after events = played events (quiet (fresh cs32 0), set (replicate 4096 0xFF) 0 0x5A, replicate 64 0xFF)
+
+-- what it holds at an address of its array
+abbrev holdsAt : ℕ → List Event → ℕ
+holdsAt at events = getD (after events .1) at 0
+
+-- bytes written from an address of two bytes on
+abbrev written : ℕ → ℕ → List ℕ → List Event
+written high low bytes = (Start ∷ Sent 0xA0 ∷ Sent high ∷ Sent low ∷ map Sent bytes) ++ (Stop ∷ [])
+
+-- 00h, 01h, .. as many as asked
+abbrev rising : ℕ → List ℕ
+rising count = upTo (λ (n : ℕ) (bytes : List ℕ). bytes ++ (n ∷ [])) count []
+
+-- a read that begins at FFFh, and what the n-th byte of it is
+abbrev readAtEnd : ℕ → ℕ
+readAtEnd more =
+    replyOf 0xFF
+    (after ((Start ∷ Sent 0xA0 ∷ Sent 0x0F ∷ Sent 0xFF ∷ Start ∷ Sent 0xA1 ∷ []) ++ replicate more (Read false)) .0 .said)
+
+-- LOCK 1 and EWPM 1, with some confirmation
+abbrev configuration : ℕ → ℕ
+configuration confirmation =
+    after (Start ∷ Sent 0xB0 ∷ Sent 0x88 ∷ Sent 0x00 ∷ Sent 0x03 ∷ Sent 0xFF ∷ Sent confirmation ∷ Stop ∷ []) .0 .chip .control .config0
+
+-- the array counter of a 24CSM01 at strap 2 after an address byte and the word address 0000h
+abbrev counterBy : ℕ → ℕ
+counterBy byte = played (Start ∷ Sent byte ∷ Sent 0x00 ∷ Sent 0x00 ∷ []) (quiet (fresh m01 2), [], []) .0 .chip .control .array
+
+-- set-up's refusal of two chips that share an address byte, else 0
+abbrev refusal : Bool → ℕ
+refusal shared = cond shared 4 0
+
+-- what the definitions give, and what the paper says
+pub edges : List (ℕ × ℕ)
+edges =
+    -- 24CSM01 zones: 3FFFh is 0, 4000h is 1, 1FFFFh is 7
+    (zoneOf geometry24CSM01 0x3FFF, 0)
+    ∷ (zoneOf geometry24CSM01 0x4000, 1)
+    ∷ (zoneOf geometry24CSM01 0x1FFFF, 7)
+    -- 24CS32 zones: 1FFh is 0, 200h is 1, FFFh is 7
+    ∷ (zoneOf geometry24CS32 0x1FF, 0)
+    ∷ (zoneOf geometry24CS32 0x200, 1)
+    ∷ (zoneOf geometry24CS32 0xFFF, 7)
+    -- 24CS32, 11h 22h written at 001Fh: 11h at 01Fh, 22h at 000h
+    ∷ (holdsAt 0x01F (written 0x00 0x1F (0x11 ∷ 0x22 ∷ [])), 0x11)
+    ∷ (holdsAt 0x000 (written 0x00 0x1F (0x11 ∷ 0x22 ∷ [])), 0x22)
+    -- 33 bytes 00h to 20h at 0000h: 20h at 000h, 01h at 001h
+    ∷ (holdsAt 0x000 (written 0x00 0x00 (rising 33)), 0x20)
+    ∷ (holdsAt 0x001 (written 0x00 0x00 (rising 33)), 0x01)
+    -- read at FFFh, then again: second byte is from 000h
+    ∷ (readAtEnd 1, 0xFF)
+    ∷ (readAtEnd 2, 0x5A)
+    -- word address F000h on a 24CS32 is 000h
+    ∷ (counterIn (geometry24CS32 .array) false 0xF0 0x00, 0)
+    -- 24CSM01, strap 2, A16 = 1, write: AAh
+    ∷ (counterBy 0xAA, 0x10000)
+    ∷ (counterBy 0xA8, 0x00000)
+    -- 24CSM01 strap 1 with 24CS32 strap 3: refusal 4; with strap 4: accepted
+    ∷ (refusal (shareAddress geometry24CSM01 1 geometry24CS32 3), 4)
+    ∷ (refusal (shareAddress geometry24CSM01 1 geometry24CS32 4), 0)
+    -- LOCK 1 confirmed by 66h: unchanged
+    ∷ (configuration 0x66, 0)
+    ∷ (configuration 0x99, 3)
+    ∷ []
+
+pub edges-hold : map (λ (edge : ℕ × ℕ). edge .0) edges ≡ map (λ (edge : ℕ × ℕ). edge .1) edges
+unfolding edges step take loaded takeAddress takeChoice callOf geometryOf read stop holds storePage upTo
+edges-hold = refl

@@ -1,0 +1,1 @@
+// No code: theorems about the definitions, in proofs/.

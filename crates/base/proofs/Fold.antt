@@ -17,6 +17,12 @@ module _ {A : Type 0} (f : ℕ → A → A) where
   unfolding upTo
   up-more n a so-far turn = rw add-one (turn ∙ ap (f n) so-far)
 
+  -- what each turn keeps, the loop keeps
+  pub up-keeps : (P : A → Type 0) → ((i : ℕ) (x : A) → P x → P (f i x)) → (n : ℕ) (a : A) → P a → P (upTo f n a)
+  unfolding upTo
+  up-keeps P turn zero a start = start
+  up-keeps P turn (suc n) a start = turn n (upTo f n a) (up-keeps P turn n a start)
+
   pub up-end : {n m : ℕ} (a : A) {x : A} → n ≡ m → x ≡ upTo f n a → x ≡ upTo f m a
   up-end a ends so-far = rw ends at so-far
 

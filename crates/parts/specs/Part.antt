@@ -34,9 +34,10 @@ pub record Sound (g : Geometry) : Type 0 where
   pub zone-whole : g .zone / g .page * g .page ≡ g .zone
   pub zone-some : 0 < g .zone
   pub zone-eight : 8 * g .zone ≡ g .array
-  -- both regions are whole pages
+  -- both regions are whole pages, and so is the read-only half
   pub array-whole : g .array / g .page * g .page ≡ g .array
   pub security-whole : g .security / g .page * g .page ≡ g .security
+  pub readonly-whole : g .readonly / g .page * g .page ≡ g .readonly
   -- sums of addresses of the array fit 32 bits
   pub array-most : g .array ≤ 2 ^ 24
   -- a security register is its read-only half and its ID page

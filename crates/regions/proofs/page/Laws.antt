@@ -1,6 +1,6 @@
 -- Pages, over any sound figures: an address is its page and its place there, and a load goes round its page.
 use Prim.Native.Nat.{ℕ, _+_, _*_, _/_, _%_, _<_, _≤_, _^_}
-use native.Mathlib.Nat.{mod-lt, mod-self, mod-eq-of-lt, div-lt-iff-lt-mul, mul-add-div-right, mul-add-mod-self-right, div-eq-of-lt, mul-le-mul-right, add-mul, one-mul}
+use native.Mathlib.Nat.{mod-lt, mod-self, mod-eq-of-lt, div-lt-iff-lt-mul, mul-add-div-right, mul-add-mod-self-right, div-eq-of-lt, mul-le-mul-right, le-div-iff-mul-le, add-mul, one-mul}
 use native.Mathlib.Decide.{decLt}
 use native.Mathlib.Omega.{arith}
 use mathlib.Core.Path.{_≡_, _∙_, sym, ap}
@@ -44,6 +44,12 @@ module _ (g : Geometry) (sound : Sound g) (at : ℕ) where
   -- the page of an address of 32 bits ends below 2 ^ 32
   pub page-ends : at < 2 ^ 32 → pageOf g at * g .page + g .page ≤ 2 ^ 32
   page-ends = page-inside (2 ^ 32) (sound .page-fits)
+
+  -- where an edge lies between pages, the page of an address behind it begins behind it
+  pub page-behind : (edge : ℕ) → edge / g .page * g .page ≡ edge → edge ≤ at → edge ≤ pageOf g at * g .page
+  page-behind edge whole behind =
+      let pages : edge / g .page ≤ pageOf g at = le-div-iff-mul-le (sound .page-some) .1 (omega (arith, whole)) in
+      omega (arith, whole, mul-le-mul-right (g .page) pages)
 
   -- and a load that goes round its page stays in the region
   pub next-inside : (size : ℕ) → size / g .page * g .page ≡ size → at < size → nextInPage g at < size

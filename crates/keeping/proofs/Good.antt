@@ -13,8 +13,8 @@ use Rattle.control.specs.declared.phase.Data.{Data}
 use Rattle.control.specs.Phase.{isBusy}
 use Rattle.control.specs.Control.{inPhase, choosing}
 use Rattle.control.specs.Exchange.{ended, started}
 use Rattle.wellformed.specs.Wellformed.{loadMost}
-use Rattle.wellformed.proofs.Fits.{Fits, together, in-phase-fits, choosing-fits}
+use Rattle.keeping.proofs.Fits.{Fits, together, in-phase-fits, choosing-fits}
 use Rattle.load.specs.Load.{empty}
 
 -- the clauses of a chip and of the load it holds

@@ -19,10 +19,10 @@ use Rattle.control.specs.declared.phase.Source.{Source}
 use Rattle.control.specs.declared.phase.Source.the-variants.{FromArray, FromSecurity, FromConfiguration, FromId, FromNothing}
 use Rattle.control.specs.Control.{inPhase}
 use Rattle.sending.specs.Sending.{nextIdPlace, movedPast, readIn, read}
 use Rattle.wellformed.specs.Wellformed.{idPlaceFits}
-use Rattle.wellformed.proofs.Fits.{Fits, in-phase-fits, array-fits, security-fits}
+use Rattle.keeping.proofs.Fits.{Fits, in-phase-fits, array-fits, security-fits}
 use Rattle.load.specs.Load.{empty}
-use Rattle.wellformed.proofs.Good.{Good, standby}
+use Rattle.keeping.proofs.Good.{Good, standby}
 
 -- a byte read: the place in the ID stops at its end, and counters go round
 next-id-fits : (place : ℕ) → leb (nextIdPlace place) 3 ≡ true

@@ -18,16 +18,16 @@ use Rattle.chip.specs.declared.Chip.{Chip}
 use Rattle.chip.specs.declared.event.Event.{Event}
 use Rattle.chip.specs.declared.event.Event.the-variants.{Start, Stop, Sent, Read, Wp, CycleOver, PowerUp}
 use Rattle.chip.specs.Chip as chip
 use Rattle.wellformed.specs.Wellformed.{wellFormed}
-use Rattle.wellformed.proofs.Fits.{Fits, apart, together, in-phase-fits, showing-fits, array-fits, security-fits, wp-fits}
+use Rattle.keeping.proofs.Fits.{Fits, apart, together, in-phase-fits, showing-fits, array-fits, security-fits, wp-fits}
 use Rattle.wellformed.specs.Wellformed.{isSetUp, controlFits}
 use Rattle.load.specs.Load.{empty}
 use Rattle.control.specs.Control as control
 use Rattle.parts.proofs.part.Laws.{array-some}
-use Rattle.wellformed.proofs.Good.{Good, either, dropped, standby, emptied-good}
-use Rattle.wellformed.proofs.Taking.{take-good}
-use Rattle.wellformed.proofs.Sending.{read-good}
-use Rattle.wellformed.proofs.Stopping.{stop-fits}
+use Rattle.keeping.proofs.Good.{Good, either, dropped, standby, emptied-good}
+use Rattle.keeping.proofs.Taking.{take-good}
+use Rattle.keeping.proofs.Sending.{read-good}
+use Rattle.keeping.proofs.Stopping.{stop-fits}
 
 -- the clauses hold of a chip exactly when the test does
 good-of : (c : Chip) → wellFormed c ≡ true → Good (c .control) (c .load)

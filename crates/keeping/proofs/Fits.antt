@@ -1,17 +1,17 @@
 -- The clauses of a chip's well-formedness one by one, and what each setter leaves of them.
 use Prim.Native.Nat.{ℕ, _<_}
-use mathlib.Core.Bool.{Bool, true, false, cond, not, _&&_}
-use mathlib.Core.Path.{_≡_, refl}
+use mathlib.Core.Bool.{Bool, true, not, _&&_}
+use mathlib.Core.Path.{_≡_}
 use lib.Dec.{ltb}
 use borrow.Author.Tests.{lt-ltb}
 use Rattle.base.proofs.Fold.{and-left, and-right, and-both}
-use Rattle.parts.specs.Part.{isPart, geometryOf}
+use Rattle.parts.specs.Part.{geometryOf}
 use Rattle.control.specs.declared.Control.{Control}
 use Rattle.control.specs.declared.phase.Phase.{Phase}
 use Rattle.control.specs.declared.phase.Shown.{Shown}
 use Rattle.control.specs.Phase.{isBusy}
 use Rattle.control.specs.Control.{inPhase, showing, choosing, arrayAt, securityAt, lockedNow, configured, wpAt}
 use Rattle.wellformed.specs.Wellformed.{isSetUp, countersFit, placeFits, unusedBitsClear, busyNotChosen, controlFits}
 
 pub record Fits (c : Control) : Type 0 where
   pub set-up : isSetUp c ≡ true

@@ -32,10 +32,10 @@ use Rattle.words.specs.declared.Register.{Register}
 use Rattle.words.specs.declared.Register.the-variants.{Security, Configuration, Lock, Nowhere}
 use Rattle.words.specs.Word.{registerOf, isLock, takeNamed, takeWord}
 use Rattle.taking.specs.Taking.{takeData, takeIn, put, loadedIn}
 use Rattle.wellformed.specs.Wellformed.{idPlaceFits}
-use Rattle.wellformed.proofs.Fits.{Fits, in-phase-fits, showing-fits, choosing-fits, array-fits, security-fits}
+use Rattle.keeping.proofs.Fits.{Fits, in-phase-fits, showing-fits, choosing-fits, array-fits, security-fits}
 use Rattle.load.specs.Load.{empty}
-use Rattle.wellformed.proofs.Good.{Good, page, either, dropped, standby, begins}
+use Rattle.keeping.proofs.Good.{Good, page, either, dropped, standby, begins}
 
 source-fits : (shown : Shown) → idPlaceFits (sourceOf shown) ≡ true
 source-fits ShowsSecurity = refl

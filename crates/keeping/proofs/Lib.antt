@@ -1,0 +1,11 @@
+mod Fits
+mod Good
+mod Taking
+mod Sending
+mod Stopping
+mod Shares
+mod Closed
+pub mod Wellformed
+pub mod Lengths
+pub mod Readonly
+pub mod Registers

@@ -1,0 +1,1 @@
+// No code: what every event keeps, as theorems in proofs/.

@@ -11,7 +11,7 @@ use Rattle.regions.specs.Zone.{zoneOf}
 use Rattle.regions.specs.Counter.{counterIn}
 use Rattle.load.specs.Load.{holds, storePage}
 use Rattle.control.specs.Said.{replyOf}
-use Rattle.address.specs.Address.{callOf, takeAddress, takeChoice}
+use Rattle.addressing.specs.Address.{callOf, takeAddress, takeChoice}
 use Rattle.taking.specs.Taking.{take, loaded}
 use Rattle.sending.specs.Sending.{read}
 use Rattle.cycle.specs.Stop.{stop}

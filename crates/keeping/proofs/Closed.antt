@@ -24,9 +24,9 @@ use Rattle.control.specs.declared.phase.Shown.{Shown}
 use Rattle.control.specs.Phase.{isBusy}
 use Rattle.control.specs.Control.{inPhase, showing, choosing, arrayAt, securityAt, lockedNow, configured, wpAt}
 use Rattle.control.specs.Exchange.{ended, started}
-use Rattle.address.specs.declared.Call.{Call}
-use Rattle.address.specs.declared.Call.the-variants.{ReadArray, WriteArray, ReadRegister, WriteRegister, HostF8, HostF9, Nobody}
-use Rattle.address.specs.Address.{callOf, takeCall, takeAddress, takeChosen, takeChoice}
+use Rattle.addressing.specs.declared.Call.{Call}
+use Rattle.addressing.specs.declared.Call.the-variants.{ReadArray, WriteArray, ReadRegister, WriteRegister, HostF8, HostF9, Nobody}
+use Rattle.addressing.specs.Address.{callOf, takeCall, takeAddress, takeChosen, takeChoice}
 use Rattle.words.specs.declared.Register.{Register}
 use Rattle.words.specs.declared.Register.the-variants.{Security, Configuration, Lock, Nowhere}
 use Rattle.words.specs.Word.{registerOf, isLock, takeNamed, takeWord}

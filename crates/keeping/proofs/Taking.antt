@@ -25,13 +25,13 @@ use Rattle.control.specs.declared.phase.Shown.{Shown}
 use Rattle.control.specs.declared.phase.Shown.the-variants.{ShowsSecurity, ShowsConfiguration, ShowsNothing}
 use Rattle.control.specs.Control.{inPhase, showing, choosing}
 use Rattle.control.specs.Said.{acked, silent}
-use Rattle.address.specs.declared.Call.{Call}
-use Rattle.address.specs.declared.Call.the-variants.{ReadArray, WriteArray, ReadRegister, WriteRegister, HostF8, HostF9, Nobody}
-use Rattle.address.specs.Address.{callOf, sourceOf, takeCall, takeAddress, takeChosen, takeChoice}
+use Rattle.addressing.specs.declared.Call.{Call}
+use Rattle.addressing.specs.declared.Call.the-variants.{ReadArray, WriteArray, ReadRegister, WriteRegister, HostF8, HostF9, Nobody}
+use Rattle.addressing.specs.Address.{callOf, sourceOf, takeCall, takeAddress, takeChosen, takeChoice}
 use Rattle.words.specs.declared.Register.{Register}
 use Rattle.words.specs.declared.Register.the-variants.{Security, Configuration, Lock, Nowhere}
 use Rattle.words.specs.Word.{registerOf, isLock, takeNamed, takeWord}
-use Rattle.taking.specs.Taking.{takeData, takeIn, put, loadedIn}
+use Rattle.taking.specs.Taking.{takeData, takeIn, loadedData, loadedIn}
 use Rattle.wellformed.specs.Wellformed.{idPlaceFits}
 use Rattle.keeping.proofs.Fits.{Fits, in-phase-fits, showing-fits, choosing-fits, array-fits, security-fits}
 use Rattle.load.specs.Load.{empty}
@@ -100,7 +100,7 @@ module _ (c : Control) (load : Load) (f : Fits c) (paged : within (page c) load 
   lock-good true = standby c (emptied load) f (within-emptied 0 load)
   lock-good false = more (ToLock true)
 
-  data-good : (kind : Data) (byte : ℕ) → Good (takeData kind c byte .control) (put kind load c byte)
+  data-good : (kind : Data) (byte : ℕ) → Good (takeData kind c byte .control) (loadedData kind load c byte)
   data-good ToArray byte =
       let inside : c .array < geometryOf (c .part) .array = ltb-true _ _ (f .array) in
       let moved = array-fits c f _ (next-inside _ sound (c .array) (geometryOf (c .part) .array) (sound .array-whole) inside) in

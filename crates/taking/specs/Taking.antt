@@ -16,7 +16,7 @@ use Rattle.control.specs.declared.phase.Came.{Came}
 use Rattle.control.specs.declared.phase.Came.the-variants.{Zero, One, Two, Three, More}
 use Rattle.control.specs.Control.{arrayAt, securityAt}
 use Rattle.control.specs.Said.{acked, silent, stays}
-use Rattle.address.specs.Address.{takeAddress, takeChoice}
+use Rattle.addressing.specs.Address.{takeAddress, takeChoice}
 use Rattle.words.specs.Word.{takeWord}
 
 -- one byte more for the configuration register; past the third they are not kept
@@ -55,12 +55,12 @@ take c byte = takeIn (c .phase) c byte
 
 -- Data: a byte for the array or the security register is loaded at its counter's place; nothing is stored yet. Lock data on a
 -- locked page ends the exchange, and any load with it
-abbrev pub put : Data → Load → Control → ℕ → Load
-put ToArray held c byte = load.put (geometryOf (c .part)) (c .array) byte held
-put ToSecurity held c byte = load.put (geometryOf (c .part)) (c .security) byte held
-put (ToConfiguration came) held c byte = held
-put (ToLock some) held c byte = cond (c .locked) (load.emptied held) held
-put ToNowhere held c byte = held
+abbrev pub loadedData : Data → Load → Control → ℕ → Load
+loadedData ToArray held c byte = load.put (geometryOf (c .part)) (c .array) byte held
+loadedData ToSecurity held c byte = load.put (geometryOf (c .part)) (c .security) byte held
+loadedData (ToConfiguration came) held c byte = held
+loadedData (ToLock some) held c byte = cond (c .locked) (load.emptied held) held
+loadedData ToNowhere held c byte = held
 
 abbrev pub loadedIn : Phase → Load → Control → ℕ → Load
 loadedIn Standby held c byte = held
@@ -68,7 +68,7 @@ loadedIn Busy held c byte = held
 loadedIn AwaitsAddress held c byte = held
 loadedIn AwaitsChoice held c byte = held
 loadedIn (AwaitsWord word) held c byte = held
-loadedIn (TakesData kind) held c byte = put kind held c byte
+loadedIn (TakesData kind) held c byte = loadedData kind held c byte
 loadedIn (SendsByte source) held c byte = held
 
 -- the load after a byte sent

@@ -1,7 +1,7 @@
 // A chip that takes bytes: what a byte sent by the host does to it, its load left aside (paper, "Data", "Configuration" and
 // "Security register").
-use address::take_address;
-use address::take_choice;
+use addressing::take_address;
+use addressing::take_choice;
 use control::Answered;
 use control::Control;
 use control::phase::Came;
@@ -11,7 +11,7 @@ use load::Load;
 use regions::page::next_in_page;
 use words::take_word;
 ghost use mathlib.Core.Path.{_≡_};
-ghost use Rattle.taking.specs.Taking.{cameMore, takeLockData, takeData, take, put, loaded};
+ghost use Rattle.taking.specs.Taking.{cameMore, takeLockData, takeData, take, loadedData, loaded};
 
 // One byte more for the configuration register.
 fn came_more(came: Came, byte: u8) -> Came
@@ -77,8 +77,8 @@ pub fn take(c: Control, byte: u8) -> Answered
 
 // A data byte goes into the load where it is for the array or the security register. On a locked page lock data ends the
 // exchange, and any load with it.
-fn put(kind: Data, load: Load, c: Control, byte: u8) -> Load
-    ensures { λ r. ⌜ r ≡ put kind load c byte ⌝ }
+fn loaded_data(kind: Data, load: Load, c: Control, byte: u8) -> Load
+    ensures { λ r. ⌜ r ≡ loadedData kind load c byte ⌝ }
 {
     match kind {
         Data::ToArray => load.put(c.part, c.array, byte),
@@ -100,7 +100,7 @@ pub fn loaded(load: Load, c: Control, byte: u8) -> Load
         Phase::AwaitsAddress => load,
         Phase::AwaitsChoice => load,
         Phase::AwaitsWord(_) => load,
-        Phase::TakesData(kind) => put(kind, load, c, byte),
+        Phase::TakesData(kind) => loaded_data(kind, load, c, byte),
         Phase::SendsByte(_) => load,
     }
 }

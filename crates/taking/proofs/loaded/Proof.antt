@@ -30,8 +30,8 @@ enum-told-5 c = search needs
 enum-known-phase : tie.Need-enum-known-phase
 enum-known-phase c = search needs
 
-put-requires : tie.Need-put-requires
-put-requires c κs = search needs
+loaded-data-requires : tie.Need-loaded-data-requires
+loaded-data-requires c κs = search needs
 
 enum-told-6 : tie.Need-enum-told-6
 enum-told-6 c = search needs
@@ -52,7 +52,7 @@ returns-5 : tie.Need-returns-5
 returns-5 c = met _ _ _ (c .enum-told5 .given .1)
 
 returns-6 : tie.Need-returns-6
-returns-6 c = c .put .ensures ∙ met _ _ _ (c .before .before .phase .given .1)
+returns-6 c = c .loaded-data .ensures ∙ met _ _ _ (c .before .before .phase .given .1)
 
 returns-7 : tie.Need-returns-7
 returns-7 c = met _ _ _ (c .enum-told6 .given .1)
@@ -67,7 +67,7 @@ loaded-spec =
     enum-told-4
     enum-told-5
     enum-known-phase
-    put-requires
+    loaded-data-requires
     enum-told-6
     returns
     returns-2

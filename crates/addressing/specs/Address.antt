@@ -15,8 +15,8 @@ use Rattle.control.specs.declared.phase.Shown.{Shown}
 use Rattle.control.specs.declared.phase.Shown.the-variants.{ShowsSecurity, ShowsConfiguration, ShowsNothing}
 use Rattle.control.specs.Control.{choosing}
 use Rattle.control.specs.Said.{acked, silent}
-use Rattle.address.specs.declared.Call.{Call}
-use Rattle.address.specs.declared.Call.the-variants.{ReadArray, WriteArray, ReadRegister, WriteRegister, HostF8, HostF9, Nobody}
+use Rattle.addressing.specs.declared.Call.{Call}
+use Rattle.addressing.specs.declared.Call.the-variants.{ReadArray, WriteArray, ReadRegister, WriteRegister, HostF8, HostF9, Nobody}
 
 -- 1010 or 1011, three bits, then 1 for read. The three bits are the code that the chip answers or not; in a write to the array
 -- they hold A16, elsewhere that bit means nothing. 08h to 0Fh match nobody, as every other byte

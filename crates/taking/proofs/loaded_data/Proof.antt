@@ -1,6 +1,6 @@
 use borrow.Author.Needs.{needs}
-use Rattle.taking.proofs.put.Statement.{statement}
-use Rattle.taking.proofs.put.Tie as tie
+use Rattle.taking.proofs.loaded_data.Statement.{statement}
+use Rattle.taking.proofs.loaded_data.Tie as tie
 
 enum-told : tie.Need-enum-told
 enum-told c = search needs
@@ -44,8 +44,8 @@ returns-5 c = rw (c .before .enum-told4 .given .1, c .if1 .left)
 returns-6 : tie.Need-returns-6
 returns-6 c = rw (c .enum-told5 .given .1)
 
-pub put-spec : {M : Type 1} → statement M
-put-spec =
+pub loaded-data-spec : {M : Type 1} → statement M
+loaded-data-spec =
     tie.close
     (tie.spec
     enum-told

@@ -6,10 +6,10 @@ use lib.Dec.{eqb}
 use Rattle.parts.specs.Part.{geometryOf}
 use Rattle.parts.specs.Address.{answers}
 use borrow.Author.Tests.{eq-eqb, ne-eqb, not-true, not-false}
-use Rattle.address.specs.Address.{callOf}
+use Rattle.addressing.specs.Address.{callOf}
 use borrow.Author.Needs.{needs}
-use Rattle.address.proofs.call_of.Statement.{statement}
-use Rattle.address.proofs.call_of.Tie as tie
+use Rattle.addressing.proofs.call_of.Statement.{statement}
+use Rattle.addressing.proofs.call_of.Tie as tie
 
 -- what is known of a byte past the first three tests
 not-f8 : (c : tie.Else3) → eqb (c .before .before .before .before .args .byte) 0xF8 ≡ false

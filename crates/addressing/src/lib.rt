@@ -9,7 +9,7 @@ use parts::address::a16_of;
 use parts::address::answers;
 ghost use mathlib.Core.Path.{_≡_};
 ghost use Rattle.parts.specs.Part.{geometryOf};
-ghost use Rattle.address.specs.Address.{callOf, sourceOf, takeAddress, takeIdentify, takeChoice};
+ghost use Rattle.addressing.specs.Address.{callOf, sourceOf, takeAddress, takeIdentify, takeChoice};
 
 // The device type identifiers, 1010 for the array and 1011 for the registers, and the two host codes of the Device ID.
 const ARRAY: u8 = 0b1010;

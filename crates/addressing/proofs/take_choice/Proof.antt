@@ -1,10 +1,10 @@
 -- Each arm is its callee's contract at the call that the arm knows.
 use mathlib.Core.Path.{_≡_, _∙_}
-use Rattle.address.specs.declared.Call.{Call}
-use Rattle.address.specs.Address.{takeChosen, takeChoice}
+use Rattle.addressing.specs.declared.Call.{Call}
+use Rattle.addressing.specs.Address.{takeChosen, takeChoice}
 use borrow.Author.Needs.{needs}
-use Rattle.address.proofs.take_choice.Statement.{statement}
-use Rattle.address.proofs.take_choice.Tie as tie
+use Rattle.addressing.proofs.take_choice.Statement.{statement}
+use Rattle.addressing.proofs.take_choice.Tie as tie
 
 at-call : (c : tie.After-call-of) {call : Call} → c .call-of .result ≡ call → takeChosen call (c .before .before .args .c) ≡ takeChoice (c .before .before .args .c) (c .before .before .args .byte)
 unfolding takeChoice

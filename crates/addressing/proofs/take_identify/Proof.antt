@@ -1,8 +1,8 @@
 -- The test is the chip's own field, and each side says what the definition says.
 use Rattle.base.proofs.test.Laws.{first-one, second-one}
 use borrow.Author.Needs.{needs}
-use Rattle.address.proofs.take_identify.Statement.{statement}
-use Rattle.address.proofs.take_identify.Tie as tie
+use Rattle.addressing.proofs.take_identify.Statement.{statement}
+use Rattle.addressing.proofs.take_identify.Tie as tie
 
 acked-requires : tie.Need-acked-requires
 acked-requires c κs = search needs

@@ -1,11 +1,11 @@
 -- Every public contract of this crate leaves one result: any two that it allows are equal.
 use Rattle.base.proofs.Unique.{Unique, same}
-use Rattle.address.proofs.call_of.Kinds as call-of-kinds
-use Rattle.address.proofs.call_of.Reads as call-of-reads
-use Rattle.address.proofs.take_address.Kinds as take-address-kinds
-use Rattle.address.proofs.take_address.Reads as take-address-reads
-use Rattle.address.proofs.take_choice.Kinds as take-choice-kinds
-use Rattle.address.proofs.take_choice.Reads as take-choice-reads
+use Rattle.addressing.proofs.call_of.Kinds as call-of-kinds
+use Rattle.addressing.proofs.call_of.Reads as call-of-reads
+use Rattle.addressing.proofs.take_address.Kinds as take-address-kinds
+use Rattle.addressing.proofs.take_address.Reads as take-address-reads
+use Rattle.addressing.proofs.take_choice.Kinds as take-choice-kinds
+use Rattle.addressing.proofs.take_choice.Reads as take-choice-reads
 
 pub call-of-unique : Unique call-of-kinds.ps call-of-kinds.r call-of-reads.Post
 call-of-unique κs args x y at-x at-y = same

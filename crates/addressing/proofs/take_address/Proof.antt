@@ -1,10 +1,10 @@
 -- Each arm is its callee's contract at the call that the arm knows, said of the chip with its choice dropped.
 use mathlib.Core.Path.{_≡_, _∙_}
-use Rattle.address.specs.declared.Call.{Call}
-use Rattle.address.specs.Address.{takeCall, takeAddress}
+use Rattle.addressing.specs.declared.Call.{Call}
+use Rattle.addressing.specs.Address.{takeCall, takeAddress}
 use borrow.Author.Needs.{needs}
-use Rattle.address.proofs.take_address.Statement.{statement}
-use Rattle.address.proofs.take_address.Tie as tie
+use Rattle.addressing.proofs.take_address.Statement.{statement}
+use Rattle.addressing.proofs.take_address.Tie as tie
 
 at-call : (c : tie.After-call-of) {call : Call} → c .call-of .result ≡ call → takeCall call (c .before .before .args .c) ≡ takeAddress (c .before .before .args .c) (c .before .before .args .byte)
 unfolding takeAddress

@@ -8,7 +8,7 @@ use Rattle.control.specs.declared.phase.Came.{Came}
 use Rattle.control.specs.declared.phase.Came.the-variants.{Zero, One, Two, Three, More}
 use Rattle.control.specs.Control.{configured}
 use Rattle.control.specs.Exchange.{ended, started}
-use Rattle.protection.specs.Protection.{lock}
+use Rattle.control.specs.Bits.{lock}
 
 -- 99h if the new LOCK is 1, 66h if 0 (Table 9-4)
 abbrev pub confirms : ℕ → ℕ → Bool

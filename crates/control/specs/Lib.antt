@@ -1,4 +1,5 @@
 pub mod Phase
 pub mod Control
+pub mod Bits
 pub mod Said
 pub mod Exchange

@@ -32,7 +32,7 @@ use Rattle.words.specs.declared.Register.the-variants.{Security, Configuration,
 use Rattle.words.specs.Word.{registerOf, isLock, takeNamed, takeWord}
 use Rattle.taking.specs.Taking.{takeData, takeIn, take}
 use Rattle.sending.specs.Sending.{movedPast, readIn, read}
-use Rattle.protection.specs.Protection.{lock}
+use Rattle.control.specs.Bits.{lock}
 use Rattle.configuration.specs.Configuration.{confirms, stopConfiguration}
 use Rattle.cycle.specs.Stop.{writesArray, writesSecurity, stopData, stopIn, stop}
 use Rattle.chip.specs.declared.Chip.{Chip}

@@ -6,7 +6,7 @@ use mathlib.Core.Path.{_≡_, _∙_, refl, sym, ap}
 use Rattle.base.specs.Bit.{bitOf}
 use Rattle.control.specs.declared.Control.{Control}
 use Rattle.control.specs.Control.{lockedNow, configured}
-use Rattle.protection.specs.Protection.{lock}
+use Rattle.control.specs.Bits.{lock}
 use Rattle.chip.specs.declared.Chip.{Chip}
 use Rattle.chip.specs.declared.event.Event.{Event}
 use Rattle.chip.specs.Chip.{step}

@@ -14,7 +14,7 @@ use Rattle.control.specs.declared.phase.Came.{Came}
 use Rattle.control.specs.declared.phase.Came.the-variants.{Zero, One, Two, Three, More}
 use Rattle.control.specs.Control.{lockedNow, configured}
 use Rattle.control.specs.Exchange.{ended, started}
-use Rattle.protection.specs.Protection.{lock}
+use Rattle.control.specs.Bits.{lock}
 use Rattle.configuration.specs.Configuration.{confirms, stopConfiguration}
 use Rattle.cycle.specs.Stop.{writesArray, writesSecurity, stopData, stopIn}
 use Rattle.chip.specs.declared.event.Event.the-variants.{Stop}

@@ -1,6 +1,6 @@
 -- An address byte, and the byte after F8h (paper, "Address byte" and "Device ID"; sheets 3.3 and 11.0).
 use Prim.Native.Nat.{ℕ, _/_, _%_}
-use mathlib.Core.Bool.{Bool, true, false, cond}
+use mathlib.Core.Bool.{true, false, cond}
 use lib.Dec.{eqb}
 use Rattle.parts.specs.declared.part.Geometry.{Geometry}
 use Rattle.parts.specs.Part.{geometryOf}

@@ -1,17 +1,10 @@
 -- One chip: what each event does to it and to its shares of the two stores, and what it says (paper, "How one chip behaves").
 use Prim.Native.Nat.{ℕ}
-use mathlib.Core.Bool.{Bool, true, false, cond}
+use mathlib.Core.Bool.{Bool, cond}
 use mathlib.Core.List.{List}
-use Rattle.parts.specs.Part.{geometryOf}
-use Rattle.load.specs.declared.Load.{Load}
 use Rattle.load.specs.Load as load
-use Rattle.control.specs.declared.Control.{Control}
 use Rattle.control.specs.declared.Said.the-variants.{Nothing}
-use Rattle.control.specs.declared.phase.Phase.{Phase}
-use Rattle.control.specs.declared.phase.Phase.the-variants.{Standby, Busy, AwaitsAddress, AwaitsChoice, AwaitsWord, TakesData, SendsByte}
-use Rattle.control.specs.declared.phase.Data.{Data}
-use Rattle.control.specs.declared.phase.Data.the-variants.{ToArray, ToSecurity, ToConfiguration, ToLock, ToNowhere}
-use Rattle.control.specs.declared.phase.Shown.the-variants.{ShowsSecurity}
+use Rattle.control.specs.declared.phase.Phase.the-variants.{Standby, AwaitsAddress}
 use Rattle.control.specs.Phase.{isBusy}
 use Rattle.control.specs.Control as control
 use Rattle.control.specs.Exchange.{poweredUp}

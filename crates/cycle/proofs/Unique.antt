@@ -4,7 +4,7 @@ use Prim.Native.Nat.{ℕ}
 use mathlib.Core.List.{List}
 use denote.Ref.{now}
 use Rattle.control.specs.declared.Control.{Control}
-use Rattle.base.proofs.Unique.{Unique, UniqueOutcome, same}
+use Rattle.base.proofs.Unique.{UniqueOutcome, same}
 use Rattle.cycle.proofs.stop.Kinds as stop-kinds
 use Rattle.cycle.proofs.stop.Reads as stop-reads
 

@@ -1,11 +1,9 @@
 -- A list of events at one chip on its own shares: its steps one after the other.
 use Prim.Native.Nat.{ℕ}
 use mathlib.Core.List.{List, [], _∷_}
-use Rattle.control.specs.declared.Said.{Said}
-use Rattle.chip.specs.declared.Chip.{Chip}
 use Rattle.chip.specs.declared.Stepped.{Stepped}
 use Rattle.chip.specs.declared.event.Event.{Event}
-use Rattle.chip.specs.Chip.{quiet, step}
+use Rattle.chip.specs.Chip.{step}
 
 -- the chip and what it said last, with its shares
 abbrev pub played : List Event → Stepped × List ℕ × List ℕ → Stepped × List ℕ × List ℕ

@@ -18,7 +18,7 @@ use Rattle.control.specs.declared.phase.Phase.the-variants.{Standby, Busy, Awai
 use Rattle.control.specs.declared.phase.Source.{Source}
 use Rattle.control.specs.declared.phase.Source.the-variants.{FromArray, FromSecurity, FromConfiguration, FromId, FromNothing}
 use Rattle.control.specs.Control.{inPhase}
-use Rattle.sending.specs.Sending.{nextIdPlace, movedPast, readIn, read}
+use Rattle.sending.specs.Sending.{nextIdPlace, movedPast, readIn}
 use Rattle.wellformed.specs.Wellformed.{idPlaceFits}
 use Rattle.keeping.proofs.Fits.{Fits, in-phase-fits, array-fits, security-fits}
 use Rattle.load.specs.Load.{empty}

@@ -17,9 +17,8 @@ use Rattle.control.specs.Exchange.{ended, started}
 use Rattle.control.specs.Bits.{lock}
 use Rattle.configuration.specs.Configuration.{confirms, stopConfiguration}
 use Rattle.cycle.specs.Stop.{writesArray, writesSecurity, stopData, stopIn}
-use Rattle.chip.specs.declared.event.Event.the-variants.{Stop}
 use Rattle.keeping.proofs.Fits.{Fits, locked-fits, configured-fits}
-use Rattle.keeping.proofs.Good.{either, dropped, ended-fits, started-fits}
+use Rattle.keeping.proofs.Good.{either, ended-fits, started-fits}
 
 -- a Stop: whatever it does, the load is gone after it
 came-fits : (came : Came) (c : Control) → Fits c → Fits (stopConfiguration came c)

@@ -1,7 +1,7 @@
 -- A byte read by the host: the byte at the counter is sent and the counter advances, also where the host's NACK ends the read
 -- (paper, "Read", "Configuration" and "Device ID"; sheets 7.0, 9.4, 10.2 and 11.0).
 use Prim.Native.Nat.{ℕ, _+_}
-use mathlib.Core.Bool.{Bool, true, false, cond, not}
+use mathlib.Core.Bool.{Bool, cond, not}
 use mathlib.Core.List.{List}
 use lib.Dec.{ltb}
 use lib.ListN.{getD}

@@ -1,7 +1,7 @@
 -- A byte sent by the host, by the phase of the chip that it meets; its load is left aside (paper, "Data", "Configuration" and
 -- "Security register"; sheets 6.1, 6.2, 9.3, 10.3 and 10.4.1).
 use Prim.Native.Nat.{ℕ}
-use mathlib.Core.Bool.{Bool, true, false, cond}
+use mathlib.Core.Bool.{true, cond}
 use Rattle.parts.specs.Part.{geometryOf}
 use Rattle.regions.specs.Page.{nextInPage}
 use Rattle.load.specs.declared.Load.{Load}

@@ -1,6 +1,6 @@
 -- A chip's own part of what makes a state well formed, clause by clause (paper, "Well formed means").
 use Prim.Native.Nat.{ℕ}
-use mathlib.Core.Bool.{Bool, true, false, cond, not, _&&_}
+use mathlib.Core.Bool.{Bool, true, cond, not, _&&_}
 use lib.Dec.{ltb, leb}
 use Rattle.parts.specs.Part.{isPart, geometryOf}
 use Rattle.load.specs.Load.{within}

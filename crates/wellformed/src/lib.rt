@@ -6,7 +6,6 @@ use control::phase::Phase;
 use control::phase::Source;
 use control::phase::is_busy;
 use control::phase::takes_data;
-use load::Load;
 use parts::part::geometry_of;
 use parts::part::is_part;
 ghost use mathlib.Core.Path.{_≡_};

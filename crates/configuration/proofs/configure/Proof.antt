@@ -1,3 +1,4 @@
+-- The test is the definition's: the confirmation fits, and LOCK is 0 so far.
 use mathlib.Core.Path.{_∙_, sym}
 use borrow.Author.Needs.{needs}
 use Rattle.configuration.proofs.configure.Statement.{statement}

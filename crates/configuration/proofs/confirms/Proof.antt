@@ -1,3 +1,4 @@
+-- The new LOCK decides which of the two bytes confirms.
 use mathlib.Core.Path.{_∙_, sym}
 use borrow.Author.Needs.{needs}
 use Rattle.configuration.proofs.confirms.Statement.{statement}

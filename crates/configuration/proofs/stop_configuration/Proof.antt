@@ -1,3 +1,4 @@
+-- Each arm is its callee's contract at what came.
 use borrow.Author.Needs.{needs}
 use Rattle.configuration.proofs.stop_configuration.Statement.{statement}
 use Rattle.configuration.proofs.stop_configuration.Tie as tie

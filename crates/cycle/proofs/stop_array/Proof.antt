@@ -1,3 +1,4 @@
+-- The test is `writes_array`'s; where it holds the share is what `store_page` leaves, else it is as it was.
 use mathlib.Core.Path.{_∙_, sym}
 use borrow.Author.Needs.{needs}
 use Rattle.cycle.proofs.stop_array.Statement.{statement}

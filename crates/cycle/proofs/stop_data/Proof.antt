@@ -1,3 +1,4 @@
+-- Each arm is its callee's contract at the kind of data, and the share that it is not lent stays.
 use Rattle.control.specs.declared.Control.{Control}
 use Prim.Native.Nat.{ℕ}
 use mathlib.Core.List.{List}

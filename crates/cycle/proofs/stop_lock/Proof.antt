@@ -1,3 +1,4 @@
+-- The test is the definition's: a byte came, and the page is not locked yet.
 use mathlib.Core.Path.{_∙_, sym}
 use borrow.Author.Needs.{needs}
 use Rattle.cycle.proofs.stop_lock.Statement.{statement}

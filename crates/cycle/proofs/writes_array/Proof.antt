@@ -1,3 +1,4 @@
+-- Two tests, in the definition's order.
 use borrow.Author.Needs.{needs}
 use Rattle.cycle.proofs.writes_array.Statement.{statement}
 use Rattle.cycle.proofs.writes_array.Tie as tie

@@ -1,3 +1,4 @@
+-- Three tests, in the definition's order.
 use borrow.Author.Needs.{needs}
 use Rattle.cycle.proofs.writes_security.Statement.{statement}
 use Rattle.cycle.proofs.writes_security.Tie as tie

@@ -1,3 +1,4 @@
+-- Past the share the library's `set` changes nothing, and nor does the code.
 use lib.Seq.{set-out}
 use borrow.Author.Needs.{needs}
 use Rattle.load.proofs.store_byte.Statement.{statement}

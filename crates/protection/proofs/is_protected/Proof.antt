@@ -1,3 +1,4 @@
+-- EWPM picks the zone's bit or the pin, as in the definition.
 use mathlib.Core.Path.{_∙_, sym}
 use borrow.Author.Needs.{needs}
 use Rattle.protection.proofs.is_protected.Statement.{statement}

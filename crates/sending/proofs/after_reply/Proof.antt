@@ -1,3 +1,4 @@
+-- A NACK puts the chip on standby.
 use borrow.Author.Needs.{needs}
 use Rattle.sending.proofs.after_reply.Statement.{statement}
 use Rattle.sending.proofs.after_reply.Tie as tie

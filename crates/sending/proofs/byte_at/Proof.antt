@@ -1,3 +1,4 @@
+-- Inside the share no default is read; past it the default is FFh.
 use mathlib.Core.Path.{sym}
 use lib.ListN.{List·getD-eq-default}
 use Rattle.base.proofs.Store.{at-any}

@@ -1,3 +1,4 @@
+-- Each arm is its callee's contract at the source that the arm knows.
 use borrow.Author.Needs.{needs}
 use Rattle.sending.proofs.byte_from.Statement.{statement}
 use Rattle.sending.proofs.byte_from.Tie as tie

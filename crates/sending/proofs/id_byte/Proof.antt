@@ -1,3 +1,4 @@
+-- A part has three ID bytes; inside them no default is read, past them it is FFh.
 use mathlib.Core.Path.{sym}
 use lib.ListN.{List·getD-eq-default}
 use Rattle.parts.proofs.part.Laws.{sound-is}

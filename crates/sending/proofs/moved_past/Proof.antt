@@ -1,3 +1,4 @@
+-- Each arm is its callee's contract at the source that the arm knows, by the part's figures.
 use borrow.Author.Needs.{needs}
 use Rattle.sending.proofs.moved_past.Statement.{statement}
 use Rattle.sending.proofs.moved_past.Tie as tie

@@ -1,3 +1,4 @@
+-- The test is the definition's.
 use borrow.Author.Tests.{lt-ltb, le-ltb}
 use borrow.Author.Needs.{needs}
 use Rattle.sending.proofs.next_id_place.Statement.{statement}

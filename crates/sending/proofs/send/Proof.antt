@@ -1,3 +1,4 @@
+-- The byte, the move and the host's reply, each by its contract.
 use borrow.Author.Needs.{needs}
 use Rattle.sending.proofs.send.Statement.{statement}
 use Rattle.sending.proofs.send.Tie as tie

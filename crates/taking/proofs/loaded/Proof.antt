@@ -1,3 +1,4 @@
+-- Only in a phase that takes data is the load another.
 use Rattle.taking.specs.Taking.{loadedIn, loaded}
 use Rattle.load.specs.declared.Load.{Load}
 use Rattle.control.specs.declared.phase.Phase.{Phase}

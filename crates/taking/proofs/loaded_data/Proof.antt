@@ -1,3 +1,4 @@
+-- Each arm is its callee's contract at the kind of data that the arm knows.
 use borrow.Author.Needs.{needs}
 use Rattle.taking.proofs.loaded_data.Statement.{statement}
 use Rattle.taking.proofs.loaded_data.Tie as tie

@@ -1,3 +1,4 @@
+-- The two tests of the definition.
 use borrow.Author.Needs.{needs}
 use Rattle.wellformed.proofs.busy_not_chosen.Statement.{statement}
 use Rattle.wellformed.proofs.busy_not_chosen.Tie as tie

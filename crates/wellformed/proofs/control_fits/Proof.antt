@@ -1,3 +1,4 @@
+-- The clauses in the definition's order, each by its function.
 use borrow.Author.Needs.{needs}
 use Rattle.wellformed.proofs.control_fits.Statement.{statement}
 use Rattle.wellformed.proofs.control_fits.Tie as tie

@@ -1,3 +1,4 @@
+-- Both counters are tested against the part's figures.
 use borrow.Author.Needs.{needs}
 use Rattle.wellformed.proofs.counters_fit.Statement.{statement}
 use Rattle.wellformed.proofs.counters_fit.Tie as tie

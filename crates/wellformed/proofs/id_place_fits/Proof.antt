@@ -1,3 +1,4 @@
+-- Only the ID has a place that can be wrong.
 use borrow.Author.Needs.{needs}
 use Rattle.wellformed.proofs.id_place_fits.Statement.{statement}
 use Rattle.wellformed.proofs.id_place_fits.Tie as tie

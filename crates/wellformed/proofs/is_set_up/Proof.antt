@@ -1,3 +1,4 @@
+-- The part and the strap are tested against the part's figures.
 use borrow.Author.Needs.{needs}
 use Rattle.wellformed.proofs.is_set_up.Statement.{statement}
 use Rattle.wellformed.proofs.is_set_up.Tie as tie

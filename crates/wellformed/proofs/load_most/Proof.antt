@@ -1,3 +1,4 @@
+-- The test on the phase is the definition's.
 use mathlib.Core.Path.{_∙_, sym}
 use borrow.Author.Needs.{needs}
 use Rattle.wellformed.proofs.load_most.Statement.{statement}

@@ -1,3 +1,4 @@
+-- The clauses of the control, and those of the load by how much of it may be marked.
 use Rattle.wellformed.specs.Wellformed.{wellFormed}
 use borrow.Author.Needs.{needs}
 use Rattle.wellformed.proofs.well_formed.Statement.{statement}

@@ -1,3 +1,4 @@
+-- The test on the phase is the definition's; a busy chip goes to standby, any other stays.
 use mathlib.Core.Path.{_∙_, sym}
 use borrow.Author.Needs.{needs}
 use Rattle.chip.proofs.Chip.cycle_over.Statement.{statement}

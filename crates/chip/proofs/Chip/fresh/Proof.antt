@@ -1,3 +1,4 @@
+-- A fresh control and an empty load.
 use borrow.Author.Needs.{needs}
 use Rattle.chip.proofs.Chip.fresh.Statement.{statement}
 use Rattle.chip.proofs.Chip.fresh.Tie as tie

@@ -1,3 +1,4 @@
+-- The control after power up, and the load without its marks.
 use borrow.Author.Needs.{needs}
 use Rattle.chip.proofs.Chip.power_up.Statement.{statement}
 use Rattle.chip.proofs.Chip.power_up.Tie as tie

@@ -1,3 +1,4 @@
+-- The chip and its answer are those of `sending`; the load stays.
 use borrow.Author.Needs.{needs}
 use Rattle.chip.proofs.Chip.read.Statement.{statement}
 use Rattle.chip.proofs.Chip.read.Tie as tie

@@ -1,3 +1,4 @@
+-- The test on the phase is the definition's; a busy chip stays as it is.
 use mathlib.Core.Path.{_∙_, sym}
 use borrow.Author.Needs.{needs}
 use Rattle.chip.proofs.Chip.start.Statement.{statement}

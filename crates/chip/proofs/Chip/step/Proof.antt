@@ -1,3 +1,4 @@
+-- Each arm is its callee's contract at the event that the arm knows; only the Stop's arm hands the stores on to be changed.
 use Rattle.chip.specs.Chip.{quiet, step}
 use Rattle.chip.specs.declared.Chip.{Chip}
 use mathlib.Core.Path.{ap}

@@ -1,3 +1,4 @@
+-- A busy chip and its shares stay; else the control and both shares are those of `cycle`, and the load is emptied.
 use Rattle.load.specs.declared.Load.{Load}
 use Rattle.load.specs.Load.{emptied}
 use Rattle.chip.specs.declared.Chip.{Chip}

@@ -1,3 +1,4 @@
+-- The control and its answer are those of `taking::take`, the load that of `taking::loaded`.
 use borrow.Author.Needs.{needs}
 use Rattle.chip.proofs.Chip.take.Statement.{statement}
 use Rattle.chip.proofs.Chip.take.Tie as tie

@@ -1,3 +1,4 @@
+-- The control with its pin at the level, and the load as it was.
 use borrow.Author.Needs.{needs}
 use Rattle.chip.proofs.Chip.wp.Statement.{statement}
 use Rattle.chip.proofs.Chip.wp.Tie as tie

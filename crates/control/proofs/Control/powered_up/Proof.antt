@@ -1,3 +1,4 @@
+-- Five setters, in the definition's order.
 use borrow.Author.Needs.{needs}
 use Rattle.control.proofs.Control.powered_up.Statement.{statement}
 use Rattle.control.proofs.Control.powered_up.Tie as tie

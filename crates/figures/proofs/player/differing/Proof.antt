@@ -1,3 +1,4 @@
+-- The count of words that are left falls; nothing is promised of the result but that there is one.
 use borrow.Author.Needs.{needs}
 use lib.ListN.{length}
 use mathlib.Core.Path.{_≡_, refl}

@@ -1,3 +1,4 @@
+-- The count of bytes that are left falls.
 use borrow.Author.Needs.{needs}
 use lib.ListN.{length}
 use mathlib.Core.Path.{_≡_, refl}

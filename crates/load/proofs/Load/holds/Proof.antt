@@ -1,3 +1,4 @@
+-- The loop's test so far is the definition's up to i, and a sound page has at most as many bytes as a load has marks.
 use Rattle.load.specs.Load.{isMarked, holds}
 use Rattle.parts.proofs.part.Laws.{sound-is}
 use Rattle.base.specs.Fold.{anyBelow}

@@ -1,3 +1,4 @@
+-- A place in a page is below 256, so both stores are inside the load.
 use Rattle.parts.proofs.part.Laws.{sound-of}
 use Rattle.regions.proofs.page.Laws.{place-small}
 use borrow.Author.Needs.{needs}

@@ -1,3 +1,4 @@
+-- The share so far is the definition's after i places; the page ends at 2 ^ 32 or below, so no address wraps.
 use Rattle.load.specs.Load.{storePlace, storePage}
 use Rattle.regions.proofs.page.Laws.{page-ends}
 use Rattle.parts.proofs.part.Laws.{sound-is}

@@ -1,3 +1,4 @@
+-- The loop's test so far is the definition's up to i.
 use Rattle.load.specs.Load.{fitsAt, within}
 use Rattle.base.specs.Fold.{allBelow}
 use Rattle.base.proofs.Fold.{up-none, up-more, up-end}

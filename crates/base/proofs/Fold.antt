@@ -5,8 +5,8 @@ use native.Mathlib.Decide.{decLt}
 use native.Mathlib.Numerals.{add-one}
 use native.Mathlib.Omega.{arith}
 use mathlib.Core.Bool.{Bool, true, false, _&&_, _||_, false≢true}
-use mathlib.Core.Path.{_≡_, _∙_, refl, ap, subst}
-use Rattle.base.specs.Fold.{upTo, allBelow, anyBelow}
+use mathlib.Core.Path.{_≡_, _∙_, refl, sym, ap, subst}
+use Rattle.base.specs.Fold.{upTo, allBelow, anyBelow, allPairs, anyPair}
 
 module _ {A : Type 0} (f : ℕ → A → A) where
   pub up-none : (a : A) → a ≡ upTo f 0 a
@@ -22,6 +22,20 @@ module _ {A : Type 0} (f : ℕ → A → A) where
   unfolding upTo
   up-keeps P turn zero a start = start
   up-keeps P turn (suc n) a start = turn n (upTo f n a) (up-keeps P turn n a start)
+
+  -- or what each turn below n keeps
+  pub up-keeps-below : (P : A → Type 0) (n : ℕ) → ((i : ℕ) (x : A) → i < n → P x → P (f i x)) → (a : A) → P a → P (upTo f n a)
+  unfolding upTo
+  up-keeps-below P zero turn a start = start
+  up-keeps-below P (suc n) turn a start =
+      turn n (upTo f n a) (omega arith) (up-keeps-below P n (λ i x below. turn i x (omega arith)) a start)
+
+  -- two loops whose turns agree end alike
+  pub up-same : (g : ℕ → A → A) (n : ℕ) → ((i : ℕ) (x : A) → i < n → f i x ≡ g i x) → (a : A) → upTo f n a ≡ upTo g n a
+  unfolding upTo
+  up-same g zero agree a = refl
+  up-same g (suc n) agree a =
+      agree n (upTo f n a) (omega arith) ∙ ap (g n) (up-same g n (λ i x below. agree i x (omega arith)) a)
 
   pub up-end : {n m : ℕ} (a : A) {x : A} → n ≡ m → x ≡ upTo f n a → x ≡ upTo f m a
   up-end a ends so-far = rw ends at so-far
@@ -46,6 +60,10 @@ pub or-right : (a b : Bool) → b ≡ true → (a || b) ≡ true
 or-right true b h = refl
 or-right false b h = h
 
+pub or-none : (a b : Bool) → (a || b) ≡ false → (a ≡ false) × (b ≡ false)
+or-none true b h = absurd (false≢true (sym h))
+or-none false b h = (refl, h)
+
 module _ (test : ℕ → Bool) where
   pub all-each : (n : ℕ) → ((i : ℕ) → i < n → test i ≡ true) → allBelow test n ≡ true
   unfolding upTo
@@ -69,3 +87,38 @@ module _ (test : ℕ → Bool) where
       go : Dec (i < n) → (i < n → anyBelow test n ≡ true) → (test n || anyBelow test n) ≡ true
       go (yes p) earlier = or-right (test n) _ (earlier p)
       go (no p) earlier = let last : i ≡ n = omega arith in or-left (test n) _ (subst (λ (k : ℕ). test k ≡ true) last here)
+
+  pub any-none : (n i : ℕ) → anyBelow test n ≡ false → i < n → test i ≡ false
+  unfolding upTo
+  any-none zero i none below = absurd (omega arith)
+  any-none (suc n) i none below = go (decLt i n) (λ (p : i < n). any-none n i (or-none (test n) _ none .1) p)
+    where
+      go : Dec (i < n) → (i < n → test i ≡ false) → test i ≡ false
+      go (yes p) earlier = earlier p
+      go (no p) earlier = let last : n ≡ i = omega arith in subst (λ (k : ℕ). test k ≡ false) last (or-none (test n) _ none .0)
+
+  pub none-any : (n : ℕ) → ((i : ℕ) → i < n → test i ≡ false) → anyBelow test n ≡ false
+  unfolding upTo
+  none-any zero none = refl
+  none-any (suc n) none = rw (none n (omega arith)) (none-any n (λ i below. none i (omega arith)))
+
+  -- a test that holds of some index holds of one that can be named
+  pub any-some : (n : ℕ) → anyBelow test n ≡ true → (i : ℕ) × ((i < n) × (test i ≡ true))
+  unfolding upTo
+  any-some zero some = absurd (false≢true some)
+  any-some (suc n) some = go (test n) refl some (any-some n)
+    where
+      go : (here : Bool) → test n ≡ here → (here || anyBelow test n) ≡ true → (anyBelow test n ≡ true → (i : ℕ) × ((i < n) × (test i ≡ true))) → (i : ℕ) × ((i < suc n) × (test i ≡ true))
+      go true is held earlier = (n, (omega arith, is))
+      go false is held earlier = let (i, (below, holds)) = earlier held in (i, (omega arith, holds))
+
+-- tests of pairs
+module _ (test : ℕ → ℕ → Bool) (n : ℕ) where
+  pub all-pairs-each : ((i j : ℕ) → i < n → j < i → test i j ≡ true) → allPairs test n ≡ true
+  all-pairs-each each = all-each (λ (i : ℕ). allBelow (test i) i) n (λ i below. all-each (test i) i (λ j before. each i j below before))
+
+  pub all-pairs-at : (i j : ℕ) → allPairs test n ≡ true → i < n → j < i → test i j ≡ true
+  all-pairs-at i j all below before = all-at (test i) i j (all-at (λ (k : ℕ). allBelow (test k) k) n i all below) before
+
+  pub any-pair-none : (i j : ℕ) → anyPair test n ≡ false → i < n → j < i → test i j ≡ false
+  any-pair-none i j none below before = any-none (test i) i j (any-none (λ (k : ℕ). anyBelow (test k) k) n i none below) before

@@ -1,4 +1,5 @@
 pub mod Fold
 pub mod Store
+pub mod Cut
 pub mod Table
 pub mod Unique

@@ -8,6 +8,8 @@ use borrow.Fn.Kinds.{Out, Dens, resT, endedOf}
 use denote.Triple.Clauses.{AtExit}
 use Rattle.base.proofs.bit.bit_of.Kinds as bit-of-kinds
 use Rattle.base.proofs.bit.bit_of.Reads as bit-of-reads
+use Rattle.base.proofs.number.least.Kinds as least-kinds
+use Rattle.base.proofs.number.least.Reads as least-reads
 use Rattle.base.proofs.test.and.Kinds as and-kinds
 use Rattle.base.proofs.test.and.Reads as and-reads
 use Rattle.base.proofs.test.or.Kinds as or-kinds
@@ -37,6 +39,9 @@ same p q = p ∙ sym q
 
 pub bit-of-unique : Unique bit-of-kinds.ps bit-of-kinds.r bit-of-reads.Post
 bit-of-unique κs args x y at-x at-y = same
+
+pub least-unique : Unique least-kinds.ps least-kinds.r least-reads.Post
+least-unique κs args x y at-x at-y = same
 
 pub and-unique : Unique and-kinds.ps and-kinds.r and-reads.Post
 and-unique κs args x y at-x at-y = same

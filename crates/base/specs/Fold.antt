@@ -14,3 +14,10 @@ allBelow test n = upTo (λ (i : ℕ) (ok : Bool). test i && ok) n true
 -- a test that holds at some index below n
 abbrev pub anyBelow : (ℕ → Bool) → ℕ → Bool
 anyBelow test n = upTo (λ (i : ℕ) (found : Bool). test i || found) n false
+
+-- a test of each two indices below n, the later one named first, and of some two
+abbrev pub allPairs : (ℕ → ℕ → Bool) → ℕ → Bool
+allPairs test n = allBelow (λ (i : ℕ). allBelow (test i) i) n
+
+abbrev pub anyPair : (ℕ → ℕ → Bool) → ℕ → Bool
+anyPair test n = anyBelow (λ (i : ℕ). anyBelow (test i) i) n

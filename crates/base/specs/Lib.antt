@@ -1,4 +1,5 @@
 pub mod Fold
+pub mod Least
 pub mod Store
 pub mod Bit
 pub mod Word

@@ -32,6 +32,14 @@ use Rattle.control.proofs.Control.powered_up.Kinds as powered-up-kinds
 use Rattle.control.proofs.Control.powered_up.Reads as powered-up-reads
 use Rattle.control.proofs.phase.is_busy.Kinds as is-busy-kinds
 use Rattle.control.proofs.phase.is_busy.Reads as is-busy-reads
+use Rattle.control.proofs.phase.is_sending.Kinds as is-sending-kinds
+use Rattle.control.proofs.phase.is_sending.Reads as is-sending-reads
+use Rattle.control.proofs.phase.is_taking.Kinds as is-taking-kinds
+use Rattle.control.proofs.phase.is_taking.Reads as is-taking-reads
+use Rattle.control.proofs.phase.is_awaiting.Kinds as is-awaiting-kinds
+use Rattle.control.proofs.phase.is_awaiting.Reads as is-awaiting-reads
+use Rattle.control.proofs.phase.awaits_address.Kinds as awaits-address-kinds
+use Rattle.control.proofs.phase.awaits_address.Reads as awaits-address-reads
 use Rattle.control.proofs.phase.takes_data.Kinds as takes-data-kinds
 use Rattle.control.proofs.phase.takes_data.Reads as takes-data-reads
 
@@ -85,3 +93,15 @@ is-busy-unique κs args x y at-x at-y = same
 
 pub takes-data-unique : Unique takes-data-kinds.ps takes-data-kinds.r takes-data-reads.Post
 takes-data-unique κs args x y at-x at-y = same
+
+pub is-sending-unique : Unique is-sending-kinds.ps is-sending-kinds.r is-sending-reads.Post
+is-sending-unique κs args x y at-x at-y = same
+
+pub is-taking-unique : Unique is-taking-kinds.ps is-taking-kinds.r is-taking-reads.Post
+is-taking-unique κs args x y at-x at-y = same
+
+pub is-awaiting-unique : Unique is-awaiting-kinds.ps is-awaiting-kinds.r is-awaiting-reads.Post
+is-awaiting-unique κs args x y at-x at-y = same
+
+pub awaits-address-unique : Unique awaits-address-kinds.ps awaits-address-kinds.r awaits-address-reads.Post
+awaits-address-unique κs args x y at-x at-y = same

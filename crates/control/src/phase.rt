@@ -1,6 +1,6 @@
 // Where a chip stands in an exchange. Each case carries what only it needs.
 ghost use mathlib.Core.Path.{_≡_};
-ghost use Rattle.control.specs.Phase.{isBusy, takesData};
+ghost use Rattle.control.specs.Phase.{isBusy, takesData, isSending, isTaking, isAwaiting, awaitsAddress};
 
 pub enum Phase {
     Standby,
@@ -81,6 +81,64 @@ pub fn takes_data(phase: Phase) -> bool
         Phase::AwaitsChoice => false,
         Phase::AwaitsWord(_) => false,
         Phase::TakesData(_) => true,
+        Phase::SendsByte(_) => false,
+    }
+}
+
+pub fn is_sending(phase: Phase) -> bool
+    ensures { λ r. ⌜ r ≡ isSending phase ⌝ }
+{
+    match phase {
+        Phase::Standby => false,
+        Phase::Busy => false,
+        Phase::AwaitsAddress => false,
+        Phase::AwaitsChoice => false,
+        Phase::AwaitsWord(_) => false,
+        Phase::TakesData(_) => false,
+        Phase::SendsByte(_) => true,
+    }
+}
+
+// Awaiting an address byte, or the byte after F8h, counts as taking (paper, "Well formed means").
+pub fn is_taking(phase: Phase) -> bool
+    ensures { λ r. ⌜ r ≡ isTaking phase ⌝ }
+{
+    match phase {
+        Phase::Standby => false,
+        Phase::Busy => false,
+        Phase::AwaitsAddress => true,
+        Phase::AwaitsChoice => true,
+        Phase::AwaitsWord(_) => true,
+        Phase::TakesData(_) => true,
+        Phase::SendsByte(_) => false,
+    }
+}
+
+// Whether the next byte may be for any chip.
+pub fn is_awaiting(phase: Phase) -> bool
+    ensures { λ r. ⌜ r ≡ isAwaiting phase ⌝ }
+{
+    match phase {
+        Phase::Standby => false,
+        Phase::Busy => false,
+        Phase::AwaitsAddress => true,
+        Phase::AwaitsChoice => true,
+        Phase::AwaitsWord(_) => false,
+        Phase::TakesData(_) => false,
+        Phase::SendsByte(_) => false,
+    }
+}
+
+pub fn awaits_address(phase: Phase) -> bool
+    ensures { λ r. ⌜ r ≡ awaitsAddress phase ⌝ }
+{
+    match phase {
+        Phase::Standby => false,
+        Phase::Busy => false,
+        Phase::AwaitsAddress => true,
+        Phase::AwaitsChoice => false,
+        Phase::AwaitsWord(_) => false,
+        Phase::TakesData(_) => false,
         Phase::SendsByte(_) => false,
     }
 }

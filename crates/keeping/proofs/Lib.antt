@@ -9,3 +9,4 @@ pub mod Wellformed
 pub mod Lengths
 pub mod Readonly
 pub mod Registers
+pub mod Beside

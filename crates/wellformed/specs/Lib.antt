@@ -1,1 +1,2 @@
 pub mod Wellformed
+pub mod Beside

@@ -1,4 +1,6 @@
 // A chip's own part of what makes a state well formed (paper, "Well formed means").
+pub mod beside;
+
 use base::test::and;
 use chip::Chip;
 use control::Control;

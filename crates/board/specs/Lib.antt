@@ -1,0 +1,3 @@
+pub mod Place
+pub mod Board
+pub mod Shares

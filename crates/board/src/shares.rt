@@ -1,0 +1,48 @@
+// Shares of the two stores: the chips' arrays end to end in chip order, and their security registers likewise.
+use crate::PLACES;
+use crate::Place;
+use crate::placed;
+use base::test::or;
+use parts::part::geometry_of;
+ghost use mathlib.Core.Path.{_≡_};
+ghost use Rattle.board.specs.Place.{placed};
+ghost use Rattle.board.specs.Shares.{arrayStart, securityStart, wrongLength};
+
+// Where the share of chip i starts, and with the count of chips where the store ends.
+pub fn array_start(i: usize, places: [Place; PLACES]) -> usize
+    ensures { λ r. ⌜ r ≡ arrayStart places (placed i) ⌝ }
+{
+    let n = placed(i);
+    let mut at: usize = 0;
+    let mut j: usize = 0;
+    while j < n {
+        let place = places[j];
+        at += geometry_of(place.part).array as usize;
+        j += 1;
+    }
+    at
+}
+
+pub fn security_start(i: usize, places: [Place; PLACES]) -> usize
+    ensures { λ r. ⌜ r ≡ securityStart places (placed i) ⌝ }
+{
+    let n = placed(i);
+    let mut at: usize = 0;
+    let mut j: usize = 0;
+    while j < n {
+        let place = places[j];
+        at += geometry_of(place.part).security as usize;
+        j += 1;
+    }
+    at
+}
+
+// Check 5: the array store, then the security store.
+pub fn wrong_length(count: usize, places: [Place; PLACES], array: usize, security: usize) -> bool
+    ensures { λ r. ⌜ r ≡ wrongLength count places array security ⌝ }
+{
+    or(
+        array != array_start(count, places),
+        security != security_start(count, places),
+    )
+}

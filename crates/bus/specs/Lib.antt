@@ -1,0 +1,3 @@
+pub mod Setup
+pub mod Step
+pub mod Run

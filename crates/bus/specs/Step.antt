@@ -1,0 +1,58 @@
+-- A single step: checks 10, 5, 6, 7, 8, and then the event on the line (paper, "Events and replies").
+use Prim.Native.Nat.{ℕ}
+use mathlib.Core.Bool.{Bool, not}
+use mathlib.Core.List.{List, [], _∷_, _++_}
+use lib.ListN.{length}
+use Rattle.chip.specs.declared.event.Event.{Event}
+use Rattle.refusal.specs.declared.Refusal.{Refusal}
+use Rattle.refusal.specs.declared.Refusal.the-variants.{NotWellFormed, WrongLength, Clash}
+use Rattle.refusal.specs.declared.Verdict.{Verdict}
+use Rattle.refusal.specs.declared.Verdict.the-variants.{Passed, Refused}
+use Rattle.refusal.specs.declared.Answer.the-variants.{Done, Denied}
+use Rattle.refusal.specs.Checks.{firstOf}
+use Rattle.board.specs.Shares.{wrongLength}
+use Rattle.order.specs.declared.Order.{Order}
+use Rattle.order.specs.Order.{orderChecks, orderOf, eventOf}
+use Rattle.lineup.specs.Chips.{placesOf}
+use Rattle.lineup.specs.Wellformed.{wellFormed}
+use Rattle.line.specs.declared.Played.{Played}
+use Rattle.line.specs.Line.{clash, play, lineReply}
+use Rattle.bus.specs.declared.Bus.{Bus}
+use Rattle.bus.specs.declared.Stepped.{Stepped}
+
+-- the state, then both stores
+abbrev pub entryChecks : Bus → List ℕ → List ℕ → List (Bool × Refusal)
+entryChecks bus array security =
+    (not (wellFormed (bus .count) (bus .chips)), NotWellFormed)
+    ∷ (wrongLength (bus .count) (placesOf (bus .chips)) (length array) (length security), WrongLength)
+    ∷ []
+
+-- then the event
+abbrev pub eventChecks : Bus → ℕ → List (Bool × Refusal)
+eventChecks bus word = orderChecks (bus .count) word ++ ((clash (eventOf (orderOf word)) (bus .count) (bus .chips), Clash) ∷ [])
+
+abbrev pub stepChecks : Bus → List ℕ → List ℕ → ℕ → List (Bool × Refusal)
+stepChecks bus array security word = entryChecks bus array security ++ eventChecks bus word
+
+-- a refused step returns the state it was given, and leaves both stores
+abbrev pub refused : Refusal → Bus → List ℕ → List ℕ → Stepped × List ℕ × List ℕ
+refused refusal bus array security = (record { bus = bus; answer = Denied refusal }, array, security)
+
+-- what the line made of an event
+abbrev pub done : Event → ℕ → Played × List ℕ × List ℕ → Stepped × List ℕ × List ℕ
+done event count world =
+    (record { bus = record { count = count; chips = world .0 .chips }; answer = Done (lineReply event (world .0 .said)) }, world .1, world .2)
+
+unfoldable pub played : Order → Bus → List ℕ → List ℕ → Stepped × List ℕ × List ℕ
+played order bus array security = done (eventOf order) (bus .count) (play order (bus .count) (bus .chips) array security)
+
+abbrev pub stepBy : Verdict → Bus → List ℕ → List ℕ → ℕ → Stepped × List ℕ × List ℕ
+stepBy Passed bus array security word = played (orderOf word) bus array security
+stepBy (Refused refusal) bus array security word = refused refusal bus array security
+
+-- one event of a state that is well formed, with stores of the right length
+unfoldable pub event : Bus → List ℕ → List ℕ → ℕ → Stepped × List ℕ × List ℕ
+event bus array security word = stepBy (firstOf (eventChecks bus word)) bus array security word
+
+unfoldable pub step : Bus → List ℕ → List ℕ → ℕ → Stepped × List ℕ × List ℕ
+step bus array security word = stepBy (firstOf (stepChecks bus array security word)) bus array security word

@@ -1,0 +1,243 @@
+// The bench's bus: one to four chips on a line, set up, stepped and run (paper, "What the bench plays" and "Events and replies").
+use board::PLACES;
+use board::Place;
+use board::board_verdict;
+use board::placed;
+use board::shares::wrong_length;
+use chip::Chip;
+use line::clash;
+use line::line_reply;
+use lineup::places_of;
+use order::Order;
+use order::event_of;
+use order::order_of;
+use order::order_verdict;
+use refusal::Answer;
+use refusal::Refusal;
+use refusal::Verdict;
+use refusal::answer_word;
+ghost use mathlib.Core.Path.{_≡_};
+ghost use Prim.Native.Nat.{ℕ, _≤_};
+ghost use lib.ListN.{length};
+ghost use Rattle.refusal.specs.Checks.{firstOf};
+ghost use Rattle.board.specs.Place.{placed};
+ghost use Rattle.lineup.specs.Wellformed.{wellFormed};
+ghost use Rattle.bus.specs.Setup.{empty, setUpChecks, freshChips, setUp};
+ghost use Rattle.bus.specs.Step.{entryChecks, eventChecks, played, event, step};
+ghost use Rattle.bus.specs.Run.{runUpTo, outcome, run};
+
+pub struct Bus {
+    pub count: usize,
+    pub chips: [Chip; PLACES],
+}
+
+pub struct SetUp {
+    pub bus: Bus,
+    pub verdict: Verdict,
+}
+
+pub struct Stepped {
+    pub bus: Bus,
+    pub answer: Answer,
+}
+
+pub struct Ran {
+    pub bus: Bus,
+    pub verdict: Verdict,
+}
+
+impl Bus {
+    // Not well formed: it has no chips.
+    pub fn empty() -> Bus
+        ensures { λ r. ⌜ r ≡ empty ⌝ }
+    {
+        Bus {
+            count: 0,
+            chips: [Chip::fresh(0, 0); PLACES],
+        }
+    }
+
+    // Checks 1 to 5 in that order over all chips; writes to neither store. Places past the count are ignored.
+    pub fn set_up(count: usize, places: [Place; PLACES], array: &[u8], security: &[u8]) -> SetUp
+        ensures { λ r. ⌜ r ≡ setUp count places (now (array .entry)) (now (security .entry)) ⌝ }
+    {
+        let verdict = set_up_verdict(count, places, array, security);
+        match verdict {
+            Verdict::Refused(refusal) => SetUp {
+                bus: Bus::empty(),
+                verdict: Verdict::Refused(refusal),
+            },
+            Verdict::Passed => SetUp {
+                bus: Bus {
+                    count,
+                    chips: fresh_chips(count, places),
+                },
+                verdict: Verdict::Passed,
+            },
+        }
+    }
+
+    pub fn well_formed(self) -> bool
+        ensures { λ r. ⌜ r ≡ wellFormed (self .count) (self .chips) ⌝ }
+    {
+        let chips = self.chips;
+        lineup::well_formed(self.count, chips)
+    }
+
+    // Checks 10 and 5, which a step, a run and a page question begin with.
+    pub fn entry_verdict(self, array: &[u8], security: &[u8]) -> Verdict
+        ensures { λ r. ⌜ r ≡ firstOf (entryChecks self (now (array .entry)) (now (security .entry))) ⌝ }
+    {
+        if !self.well_formed() {
+            return Verdict::Refused(Refusal::NotWellFormed);
+        }
+        let chips = self.chips;
+        if wrong_length(self.count, places_of(chips), array.len(), security.len()) {
+            return Verdict::Refused(Refusal::WrongLength);
+        }
+        Verdict::Passed
+    }
+
+    // One event. What is refused changes nothing.
+    pub fn step(self, array: &mut [u8], security: &mut [u8], word: u16) -> Stepped
+        ensures { λ r. ⌜ (r, now (array .exit), now (security .exit)) ≡ step self (now (array .entry)) (now (security .entry)) word ⌝ }
+    {
+        let verdict = self.entry_verdict(array, security);
+        match verdict {
+            Verdict::Refused(refusal) => Stepped {
+                bus: self,
+                answer: Answer::Denied(refusal),
+            },
+            Verdict::Passed => event(self, array, security, word),
+        }
+    }
+
+    // The events in turn, with an answer for each. The state is tested once: every event keeps it well formed.
+    pub fn run(
+        self,
+        array: &mut [u8],
+        security: &mut [u8],
+        events: &[u16],
+        answers: &mut [u16],
+    ) -> Ran
+        ensures { λ r. ⌜ outcome r (now (array .exit)) (now (security .exit)) (now (answers .exit)) ≡ run self (now (array .entry)) (now (security .entry)) (now (events .entry)) (now (answers .entry)) ⌝ }
+    {
+        if answers.len() < events.len() {
+            return Ran {
+                bus: self,
+                verdict: Verdict::Refused(Refusal::ShortBuffer),
+            };
+        }
+        let verdict = self.entry_verdict(array, security);
+        match verdict {
+            Verdict::Refused(refusal) => Ran {
+                bus: self,
+                verdict: Verdict::Refused(refusal),
+            },
+            Verdict::Passed => Ran {
+                bus: run_all(self, array, security, events, answers),
+                verdict: Verdict::Passed,
+            },
+        }
+    }
+}
+
+fn set_up_verdict(count: usize, places: [Place; PLACES], array: &[u8], security: &[u8]) -> Verdict
+    ensures { λ r. ⌜ r ≡ firstOf (setUpChecks count places (now (array .entry)) (now (security .entry))) ⌝ }
+{
+    let verdict = board_verdict(count, places);
+    match verdict {
+        Verdict::Refused(refusal) => Verdict::Refused(refusal),
+        Verdict::Passed => {
+            if wrong_length(count, places, array.len(), security.len()) {
+                Verdict::Refused(Refusal::WrongLength)
+            } else {
+                Verdict::Passed
+            }
+        }
+    }
+}
+
+// A fresh chip at each place that the count fills.
+fn fresh_chips(count: usize, places: [Place; PLACES]) -> [Chip; PLACES]
+    ensures { λ r. ⌜ r ≡ freshChips places (placed count) ⌝ }
+{
+    let n = placed(count);
+    let mut chips = [Chip::fresh(0, 0); PLACES];
+    let mut i: usize = 0;
+    while i < n {
+        let place = places[i];
+        chips[i] = Chip::fresh(place.part, place.strap);
+        i += 1;
+    }
+    chips
+}
+
+// Checks 6, 7 and 8.
+fn event_verdict(bus: Bus, word: u16) -> Verdict
+    ensures { λ r. ⌜ r ≡ firstOf (eventChecks bus word) ⌝ }
+{
+    let verdict = order_verdict(bus.count, word);
+    match verdict {
+        Verdict::Refused(refusal) => Verdict::Refused(refusal),
+        Verdict::Passed => {
+            let chips = bus.chips;
+            if clash(event_of(order_of(word)), bus.count, chips) {
+                Verdict::Refused(Refusal::Clash)
+            } else {
+                Verdict::Passed
+            }
+        }
+    }
+}
+
+fn played(order: Order, bus: Bus, array: &mut [u8], security: &mut [u8]) -> Stepped
+    ensures { λ r. ⌜ (r, now (array .exit), now (security .exit)) ≡ played order bus (now (array .entry)) (now (security .entry)) ⌝ }
+{
+    let count = bus.count;
+    let chips = bus.chips;
+    let world = line::play(order, count, chips, array, security);
+    let next = world.chips;
+    let said = world.said;
+    Stepped {
+        bus: Bus { count, chips: next },
+        answer: Answer::Done(line_reply(event_of(order), said)),
+    }
+}
+
+// One event of a state that has passed 10 and 5.
+fn event(bus: Bus, array: &mut [u8], security: &mut [u8], word: u16) -> Stepped
+    ensures { λ r. ⌜ (r, now (array .exit), now (security .exit)) ≡ event bus (now (array .entry)) (now (security .entry)) word ⌝ }
+{
+    let verdict = event_verdict(bus, word);
+    match verdict {
+        Verdict::Refused(refusal) => Stepped {
+            bus,
+            answer: Answer::Denied(refusal),
+        },
+        Verdict::Passed => played(order_of(word), bus, array, security),
+    }
+}
+
+fn run_all(
+    bus: Bus,
+    array: &mut [u8],
+    security: &mut [u8],
+    events: &[u16],
+    answers: &mut [u16],
+) -> Bus
+    requires { ⌜ length (now events) ≤ length (now answers) ⌝ }
+    ensures { λ r. ⌜ (r, now (array .exit), now (security .exit), now (answers .exit)) ≡ runUpTo (now (events .entry)) (length (now (events .entry))) (bus, now (array .entry), now (security .entry), now (answers .entry)) ⌝ }
+{
+    let mut next = bus;
+    let mut i: usize = 0;
+    while i < events.len() {
+        let stepped = event(next, array, security, events[i]);
+        let answer = stepped.answer;
+        let after = stepped.bus;
+        answers[i] = answer_word(answer);
+        next = after;
+        i += 1;
+    }
+    next
+}

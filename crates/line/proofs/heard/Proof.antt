@@ -1,0 +1,28 @@
+-- The last chip to speak.
+use Rattle.line.specs.Line.{heard}
+use Rattle.control.specs.declared.Said.{Said}
+use mathlib.Core.Path.{ap, sym}
+use borrow.Author.Needs.{needs}
+use Rattle.line.proofs.heard.Statement.{statement}
+use Rattle.line.proofs.heard.Tie as tie
+
+enum-told : tie.Need-enum-told
+enum-told c = search needs
+
+enum-told-2 : tie.Need-enum-told-2
+enum-told-2 c = search needs
+
+enum-known-said : tie.Need-enum-known-said
+enum-known-said c = search needs
+
+returns : tie.Need-returns
+returns c = search needs
+
+returns-2 : tie.Need-returns-2
+returns-2 c = search needs
+
+returns-3 : tie.Need-returns-3
+returns-3 c = ap (λ (said : Said). heard (c .before .before .before .args .before) said) (sym (c .before .said .given .1))
+
+pub heard-spec : {M : Type 1} → statement M
+heard-spec = tie.close (tie.spec enum-told enum-told-2 enum-known-said returns returns-2 returns-3)

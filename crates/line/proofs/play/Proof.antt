@@ -1,0 +1,275 @@
+-- Each turn of the loop is the definition's turn of its chip (Turn), from where its shares start; figures of parts are small, so their sums fit.
+use mathlib.Core.Logic.{⊎-elim}
+use mathlib.Core.Path.{_≡_, _∙_, refl, ap, sym}
+use mathlib.Core.Bool.{Bool, true, false, _&&_}
+use mathlib.Core.List.{List}
+use Rattle.chip.specs.declared.Chip.{Chip}
+use Rattle.chip.specs.declared.event.Event.{Event}
+use Rattle.control.specs.declared.Said.{Said}
+use Rattle.order.specs.Order.{reaches, eventOf}
+use Rattle.order.specs.Hearing.{hears}
+use Rattle.board.specs.Place.{placeAt}
+use Rattle.chip.specs.Chip.{step}
+use Rattle.lineup.specs.Chips.{chipAt}
+use Rattle.base.specs.Fold.{upTo}
+use Rattle.base.specs.Least.{least}
+use Rattle.base.proofs.number.Laws.{least-first, least-most}
+use Rattle.parts.proofs.part.Laws.{sound-is, sound-of}
+use Rattle.control.specs.declared.Said.the-variants.{Nothing}
+use Rattle.board.specs.Shares.{figuresAt, arrayStart, securityStart}
+use Rattle.board.proofs.Laws.{placed-most}
+use Rattle.line.specs.Line.{turnAt, play}
+use Rattle.parts.specs.declared.part.Geometry.{Geometry}
+use Rattle.line.proofs.Turn.{world, share-ends, share-lies, next-begins, lent, back, turn-taken, turn-passed}
+use Rattle.base.proofs.Fold.{and-left, up-more, up-end}
+use borrow.Rule.Slice.PartMut.{same-len-mid}
+use Prim.Native.Nat.{ℕ, _≤_, _-_, _+_, _*_, _^_}
+use lib.ListN.{length}
+use borrow.Author.Needs.{needs}
+use native.Mathlib.Omega.{arith}
+use Rattle.line.proofs.play.Statement.{statement}
+use Rattle.line.proofs.play.Tie as tie
+
+abbrev Inv-loop : tie.InvT-loop
+Inv-loop order count array₀ security₀ event places n next₀ said₀ at₀ sat₀ i₀ array security next said at sat i =
+    (world next said array security ≡ upTo (turnAt order places) i (world next₀ said₀ array₀ security₀))
+    × (at ≡ least (arrayStart places i) (length array₀))
+    × (sat ≡ least (securityStart places i) (length security₀))
+    × (at ≤ i * 2 ^ 24)
+    × (sat ≤ i * 2 ^ 24)
+    × (length array ≡ length array₀)
+    × (length security ≡ length security₀)
+    × (i ≤ n)
+
+abbrev μ-loop : tie.MeasureT-loop
+μ-loop order count array₀ security₀ event places n next₀ said₀ at₀ sat₀ i₀ array security next said at sat i =
+    n - i
+
+event-of-requires : tie.Need-event-of-requires Inv-loop μ-loop
+event-of-requires c κs = search needs
+
+places-of-requires : tie.Need-places-of-requires Inv-loop μ-loop
+places-of-requires c κs = search needs
+
+placed-requires : tie.Need-placed-requires Inv-loop μ-loop
+placed-requires c κs = search needs
+
+-- before the branch: where both shares of chip i start and end
+array-begins : (c : tie.After-least2 Inv-loop μ-loop) → c .before .before .before .before .before .before .before .loop .at ≡ least (arrayStart (c .before .before .before .before .before .before .before .before .before .places-of .result) (c .before .before .before .before .before .before .before .loop .i)) (length (c .before .before .before .before .before .before .before .loop .array))
+array-begins c = c .before .before .before .before .before .before .before .loop .inv .1 ∙ ap (least (arrayStart (c .before .before .before .before .before .before .before .before .before .places-of .result) (c .before .before .before .before .before .before .before .loop .i))) (sym (c .before .before .before .before .before .before .before .loop .inv .5))
+
+array-ends : (c : tie.After-least2 Inv-loop μ-loop) → c .before .before .least .result ≡ least (c .before .before .before .before .before .before .before .loop .at + figuresAt (c .before .before .before .before .before .before .before .before .before .places-of .result) (c .before .before .before .before .before .before .before .loop .i) .array) (length (c .before .before .before .before .before .before .before .loop .array))
+array-ends c = c .before .before .least .ensures ∙ ap (λ (g : Geometry). least (c .before .before .before .before .before .before .before .loop .at + g .array) (length (c .before .before .before .before .before .before .before .loop .array))) (c .before .before .before .before .geometry-of .ensures)
+
+security-begins : (c : tie.After-least2 Inv-loop μ-loop) → c .before .before .before .before .before .before .before .loop .sat ≡ least (securityStart (c .before .before .before .before .before .before .before .before .before .places-of .result) (c .before .before .before .before .before .before .before .loop .i)) (length (c .before .before .before .before .before .before .before .loop .security))
+security-begins c = c .before .before .before .before .before .before .before .loop .inv .2 ∙ ap (least (securityStart (c .before .before .before .before .before .before .before .before .before .places-of .result) (c .before .before .before .before .before .before .before .loop .i))) (sym (c .before .before .before .before .before .before .before .loop .inv .6))
+
+security-ends : (c : tie.After-least2 Inv-loop μ-loop) → c .least2 .result ≡ least (c .before .before .before .before .before .before .before .loop .sat + figuresAt (c .before .before .before .before .before .before .before .before .before .places-of .result) (c .before .before .before .before .before .before .before .loop .i) .security) (length (c .before .before .before .before .before .before .before .loop .security))
+security-ends c = c .least2 .ensures ∙ ap (λ (g : Geometry). least (c .before .before .before .before .before .before .before .loop .sat + g .security) (length (c .before .before .before .before .before .before .before .loop .security))) (c .before .before .before .before .geometry-of .ensures)
+
+-- the shares lie inside their stores
+array-lies : (c : tie.After-least2 Inv-loop μ-loop) → (c .before .before .before .before .before .before .before .loop .at ≤ c .before .before .least .result) × (c .before .before .least .result ≤ length (c .before .before .before .before .before .before .before .loop .array))
+array-lies c = share-lies _ _ _ _ _ (array-begins c) (array-ends c)
+
+security-lies : (c : tie.After-least2 Inv-loop μ-loop) → (c .before .before .before .before .before .before .before .loop .sat ≤ c .least2 .result) × (c .least2 .result ≤ length (c .before .before .before .before .before .before .before .loop .security))
+security-lies c = share-lies _ _ _ _ _ (security-begins c) (security-ends c)
+
+loop-holds : tie.Need-loop-holds Inv-loop μ-loop
+unfolding upTo
+loop-holds c = (refl, sym (least-first 0 (length (c .before .before .before .before .before .args .array .now)) (omega arith)), sym (least-first 0 (length (c .before .before .before .before .before .args .security .now)) (omega arith)), omega arith, omega arith, refl, refl, omega arith)
+
+mul-place : tie.Need-mul-place Inv-loop μ-loop
+mul-place c = omega (arith, placed-most (c .before .before .before .before .before .before .before .args .count), c .before .before .placed .ensures)
+
+array-copy-out-place : tie.Need-array-copy-out-place Inv-loop μ-loop
+array-copy-out-place c = omega (arith, placed-most (c .before .before .before .before .before .before .before .args .count), c .before .before .placed .ensures)
+
+geometry-of-requires : tie.Need-geometry-of-requires Inv-loop μ-loop
+geometry-of-requires c κs = search needs
+
+cast-least : tie.Need-cast-least Inv-loop μ-loop
+cast-least c = omega arith
+
+add-least : tie.Need-add-least Inv-loop μ-loop
+add-least c = omega (arith, placed-most (c .before .before .before .before .before .before .before .before .before .before .args .count), c .before .before .before .before .before .placed .ensures, sound-is _ (c .before .geometry-of .ensures) .array-most)
+
+least-requires : tie.Need-least-requires Inv-loop μ-loop
+least-requires c κs = search needs
+
+cast-least-2 : tie.Need-cast-least-2 Inv-loop μ-loop
+cast-least-2 c = omega arith
+
+add-least-2 : tie.Need-add-least-2 Inv-loop μ-loop
+add-least-2 c = omega (arith, placed-most (c .before .before .before .before .before .before .before .before .before .before .before .before .args .count), c .before .before .before .before .before .before .before .placed .ensures, sound-is _ (c .before .before .before .geometry-of .ensures) .security-most)
+
+least-requires-2 : tie.Need-least-requires-2 Inv-loop μ-loop
+least-requires-2 c κs = search needs
+
+mul-chip : tie.Need-mul-chip Inv-loop μ-loop
+mul-chip c = omega (arith, placed-most (c .before .before .before .before .before .before .before .before .before .before .before .before .before .args .count), c .before .before .before .before .before .before .before .before .placed .ensures)
+
+array-copy-out-chip : tie.Need-array-copy-out-chip Inv-loop μ-loop
+array-copy-out-chip c = omega (arith, placed-most (c .before .before .before .before .before .before .before .before .before .before .before .before .before .args .count), c .before .before .before .before .before .before .before .before .placed .ensures)
+
+reaches-requires : tie.Need-reaches-requires Inv-loop μ-loop
+reaches-requires c κs = search needs
+
+hears-requires : tie.Need-hears-requires Inv-loop μ-loop
+hears-requires c κs = search needs
+
+and-requires : tie.Need-and-requires Inv-loop μ-loop
+and-requires c κs = search needs
+
+sub-step : tie.Need-sub-step Inv-loop μ-loop
+sub-step c = omega (arith, array-lies (c .before .before .before .before .before .before))
+
+part-step-start : tie.Need-part-step-start Inv-loop μ-loop
+part-step-start c = array-lies (c .before .before .before .before .before .before) .0
+
+part-step-end : tie.Need-part-step-end Inv-loop μ-loop
+part-step-end c = array-lies (c .before .before .before .before .before .before) .1
+
+sub-step-2 : tie.Need-sub-step-2 Inv-loop μ-loop
+sub-step-2 c = omega (arith, security-lies (c .before .before .before .before .before .before .before))
+
+part-step-start-2 : tie.Need-part-step-start-2 Inv-loop μ-loop
+part-step-start-2 c = security-lies (c .before .before .before .before .before .before .before) .0
+
+part-step-end-2 : tie.Need-part-step-end-2 Inv-loop μ-loop
+part-step-end-2 c = security-lies (c .before .before .before .before .before .before .before) .1
+
+step-requires : tie.Need-step-requires Inv-loop μ-loop
+step-requires c κs = search needs
+
+mul-next : tie.Need-mul-next Inv-loop μ-loop
+mul-next c = omega (arith, placed-most (c .before .before .before .before .before .before .before .before .before .before .before .before .before .before .before .before .before .before .before .before .before .before .before .before .before .before .before .args .count), c .before .before .before .before .before .before .before .before .before .before .before .before .before .before .before .before .before .before .before .before .before .before .placed .ensures, c .before .before .before .before .before .before .before .before .before .before .before .before .before .before .before .before .before .before .before .before .loop-test .taken)
+
+array-set-from-next : tie.Need-array-set-from-next Inv-loop μ-loop
+array-set-from-next c = omega (arith, placed-most (c .before .before .before .before .before .before .before .before .before .before .before .before .before .before .before .before .before .before .before .before .before .before .before .before .before .before .before .args .count), c .before .before .before .before .before .before .before .before .before .before .before .before .before .before .before .before .before .before .before .before .before .before .placed .ensures, c .before .before .before .before .before .before .before .before .before .before .before .before .before .before .before .before .before .before .before .before .loop-test .taken)
+
+heard-requires : tie.Need-heard-requires Inv-loop μ-loop
+heard-requires c κs = search needs
+
+add-i : tie.Need-add-i Inv-loop μ-loop
+add-i c = omega arith
+
+loop-less : tie.Need-loop-less Inv-loop μ-loop
+loop-less c = omega arith
+
+-- the turn of chip i, and both stores as long as before
+abbrev Turned : tie.Joined1 Inv-loop μ-loop → Type 0
+Turned c =
+    let l = c .before .before .before .before .before .before .before .before .before .before .before .before .before .loop in
+    (world (c .if1 .next) (c .if1 .said) (c .if1 .array) (c .if1 .security) ≡ turnAt (c .before .before .before .before .before .before .before .before .before .before .before .before .before .before .before .before .before .before .before .args .order) (c .before .before .before .before .before .before .before .before .before .before .before .before .before .before .before .places-of .result) (l .i) (world (l .next) (l .said) (l .array) (l .security)))
+    × (length (c .if1 .array) ≡ length (l .array))
+    × (length (c .if1 .security) ≡ length (l .security))
+
+turned : (c : tie.Joined1 Inv-loop μ-loop) → Turned c
+turned c =
+    let l = c .before .before .before .before .before .before .before .before .before .before .before .before .before .loop in
+    let s = c .before .before .before .before .before .before in
+    let places = c .before .before .before .before .before .before .before .before .before .before .before .before .before .before .before .places-of .result in
+    let array-begin = array-begins s in
+    let array-end = share-ends _ _ _ _ _ (array-begins s) (array-ends s) in
+    let security-begin = security-begins s in
+    let security-end = share-ends _ _ _ _ _ (security-begins s) (security-ends s) in
+    ⊎-elim
+    (λ w.
+    let q = w .3 in
+    let both : (c .before .before .before .reaches .result && c .before .before .hears .result) ≡ true = sym (c .before .and .ensures) ∙ w .0 .taken in (
+      ap (λ (chips : List Chip). world chips (c .if1 .said) (c .if1 .array) (c .if1 .security)) (w .12)
+          ∙ turn-taken (c .before .before .before .before .before .before .before .before .before .before .before .before .before .before .before .before .before .before .before .args .order) places (l .i) (l .next) (l .said) (l .array) (l .security) (q .result) (c .if1 .array) (c .if1 .security) _ _ (q .last .1 .0) (q .last .1 .1 .0) (c .if1 .said)
+          (sym (c .before .before .before .reaches .ensures) ∙ and-left _ _ both)
+          (lent _ _ _ _ (l .array) array-begin array-end)
+          (lent _ _ _ _ (l .security) security-begin security-end)
+          (w .10 ∙ back _ _ _ _ (l .array) array-begin array-end (q .last .1 .0) (q .kept .1 .0))
+          (w .11 ∙ back _ _ _ _ (l .security) security-begin security-end (q .last .1 .1 .0) (q .kept .1 .1 .0))
+          (q .ensures ∙ ap (step (chipAt (l .next) (l .i)) _ _) (c .before .before .before .before .before .before .before .before .before .before .before .before .before .before .before .before .event-of .ensures))
+          (w .13 ∙ w .9 .ensures),
+      ap (λ (xs : List ℕ). length xs) (w .10) ∙ same-len-mid {X = ℕ} (l .at) (s .before .before .least .result - l .at) (l .array) (q .last .1 .0) (q .kept .1 .0),
+      ap (λ (xs : List ℕ). length xs) (w .11) ∙ same-len-mid {X = ℕ} (l .sat) (s .least2 .result - l .sat) (l .security) (q .last .1 .1 .0) (q .kept .1 .1 .0),
+    ))
+    (λ w.
+    let order = c .before .before .before .before .before .before .before .before .before .before .before .before .before .before .before .before .before .before .before .args .order in
+    let phase = chipAt (l .next) (l .i) .control .phase in
+    let deaf : (reaches order (l .i) && hears (eventOf order) phase) ≡ false =
+    ap (λ (r : Bool). r && hears (eventOf order) phase) (sym (c .before .before .before .reaches .ensures))
+    ∙ ap (λ (h : Bool). c .before .before .before .reaches .result && h) (sym (c .before .before .hears .ensures ∙ ap (λ (e : Event). hears e phase) (c .before .before .before .before .before .before .before .before .before .before .before .before .before .before .before .before .event-of .ensures)))
+    ∙ sym (c .before .and .ensures)
+    ∙ w .0 .left in (
+      ap (λ (chips : List Chip). world chips (c .if1 .said) (c .if1 .array) (c .if1 .security)) (w .3)
+          ∙ ap (λ (said : Said). world (l .next) said (c .if1 .array) (c .if1 .security)) (w .4)
+          ∙ ap (λ (xs : List ℕ). world (l .next) (l .said) xs (c .if1 .security)) (w .1)
+          ∙ ap (λ (xs : List ℕ). world (l .next) (l .said) (l .array) xs) (w .2)
+          ∙ turn-passed order places (l .i) (l .next) (l .said) (l .array) (l .security) _ refl deaf,
+      ap (λ (xs : List ℕ). length xs) (w .1),
+      ap (λ (xs : List ℕ). length xs) (w .2),
+    ))
+    (c .if1 .came)
+
+loop-again : tie.Need-loop-again Inv-loop μ-loop
+loop-again c =
+    let l = c .before .before .before .before .before .before .before .before .before .before .before .before .before .loop in
+    let s = c .before .before .before .before .before .before in
+    let now = turned c in (
+      up-more (turnAt (c .before .before .before .before .before .before .before .before .before .before .before .before .before .before .before .before .before .before .before .args .order) (c .before .before .before .before .before .before .before .before .before .before .before .before .before .before .before .places-of .result)) (l .i) _ (l .inv .0) (now .0),
+      next-begins (λ (k : ℕ). figuresAt (c .before .before .before .before .before .before .before .before .before .before .before .before .before .before .before .places-of .result) k .array) (l .i) _ _ _ _ (array-begins s) (array-ends s) (l .inv .5),
+      next-begins (λ (k : ℕ). figuresAt (c .before .before .before .before .before .before .before .before .before .before .before .before .before .before .before .places-of .result) k .security) (l .i) _ _ _ _ (security-begins s) (security-ends s) (l .inv .6),
+      omega (arith, array-ends s, least-most (l .at + figuresAt (c .before .before .before .before .before .before .before .before .before .before .before .before .before .before .before .places-of .result) (l .i) .array) (length (l .array)), sound-of (placeAt (c .before .before .before .before .before .before .before .before .before .before .before .before .before .before .before .places-of .result) (l .i) .part) .array-most, l .inv .3),
+      omega (arith, security-ends s, least-most (l .sat + figuresAt (c .before .before .before .before .before .before .before .before .before .before .before .before .before .before .before .places-of .result) (l .i) .security) (length (l .security)), sound-of (placeAt (c .before .before .before .before .before .before .before .before .before .before .before .before .before .before .before .places-of .result) (l .i) .part) .security-most, l .inv .4),
+      now .1 ∙ l .inv .5,
+      now .2 ∙ l .inv .6,
+      omega (arith, c .before .before .before .before .before .before .before .before .before .before .before .before .loop-test .taken),
+    )
+
+same-length : tie.Need-same-length Inv-loop μ-loop
+same-length c = c .before .loop .inv .5
+
+same-length-2 : tie.Need-same-length-2 Inv-loop μ-loop
+same-length-2 c = c .before .loop .inv .6
+
+returns : tie.Need-returns Inv-loop μ-loop
+unfolding play
+returns c = let a = c .before .before .before .before .before .before .before .args in
+    rw (← c .before .before .before .places-of .ensures) (up-end (turnAt (a .order) (c .before .before .before .places-of .result)) (world (a .chips) Nothing (a .array .now) (a .security .now)) (omega (arith, c .before .before .placed .ensures)) (c .before .loop .inv .0))
+
+pub play-spec : {M : Type 1} → statement M
+play-spec =
+    tie.close
+    (tie.spec
+    Inv-loop
+    μ-loop
+    event-of-requires
+    places-of-requires
+    placed-requires
+    loop-holds
+    mul-place
+    array-copy-out-place
+    geometry-of-requires
+    cast-least
+    add-least
+    least-requires
+    cast-least-2
+    add-least-2
+    least-requires-2
+    mul-chip
+    array-copy-out-chip
+    reaches-requires
+    hears-requires
+    and-requires
+    sub-step
+    part-step-start
+    part-step-end
+    sub-step-2
+    part-step-start-2
+    part-step-end-2
+    step-requires
+    mul-next
+    array-set-from-next
+    heard-requires
+    add-i
+    loop-less
+    loop-again
+    same-length
+    same-length-2
+    returns)

@@ -1,0 +1,74 @@
+-- An event on the line: every chip that it reaches takes it on its own shares of the two stores, and the line's answer is gathered
+-- from all (paper, "Events and replies" and "The two memories").
+use Prim.Native.Nat.{ℕ}
+use mathlib.Core.Bool.{Bool, cond}
+use mathlib.Core.List.{List}
+use lib.ListN.{set}
+use Rattle.base.specs.Fold.{upTo, anyBelow}
+use Rattle.base.specs.Store.{span, patched}
+use Rattle.control.specs.declared.Said.{Said}
+use Rattle.control.specs.declared.Said.the-variants.{Nothing, Ack, Byte}
+use Rattle.control.specs.Said.{replyOf}
+use Rattle.chip.specs.declared.Chip.{Chip}
+use Rattle.chip.specs.declared.Stepped.{Stepped}
+use Rattle.chip.specs.declared.event.Event.{Event}
+use Rattle.chip.specs.declared.event.Event.the-variants.{Start, Stop, Sent, Read, Wp, CycleOver, PowerUp}
+use Rattle.chip.specs.Chip.{step}
+use Rattle.board.specs.declared.Place.{Place}
+use Rattle.board.specs.Place.{placed}
+use Rattle.board.specs.Shares.{figuresAt, arrayStart, securityStart}
+use Rattle.order.specs.declared.Order.{Order}
+use Rattle.order.specs.Order.{reaches, eventOf}
+use Rattle.order.specs.Hearing.{clashesWith}
+use Rattle.lineup.specs.Chips.{chipAt, controlAt, placesOf}
+use Rattle.line.specs.declared.Played.{Played}
+
+-- refusal 8: a byte sent while a chip is sending, or a byte read while a chip is taking bytes
+abbrev pub clash : Event → ℕ → List Chip → Bool
+clash event count chips = anyBelow (λ (i : ℕ). clashesWith event (controlAt chips i .phase)) (placed count)
+
+-- a chip's share of each store
+abbrev pub arrayShare : List Place → ℕ → List ℕ → List ℕ
+arrayShare places i array = span (arrayStart places i) (figuresAt places i .array) array
+
+abbrev pub securityShare : List Place → ℕ → List ℕ → List ℕ
+securityShare places i security = span (securityStart places i) (figuresAt places i .security) security
+
+-- what the line carries when one chip and then another have spoken; a chip that says nothing leaves it
+abbrev pub heard : Said → Said → Said
+heard before Nothing = before
+heard before Ack = Ack
+heard before (Byte byte) = Byte byte
+
+-- chip i has taken the event: its next state, its word and its shares are in their places
+abbrev pub landed : List Place → ℕ → Played × List ℕ × List ℕ → Stepped × List ℕ × List ℕ → Played × List ℕ × List ℕ
+landed places i world stepped = (
+  record { chips = set (world .0 .chips) i (stepped .0 .chip); said = heard (world .0 .said) (stepped .0 .said) },
+  patched (arrayStart places i) (stepped .1) (world .1),
+  patched (securityStart places i) (stepped .2) (world .2),
+)
+
+-- the turn of chip i
+abbrev pub turnAt : Order → List Place → ℕ → Played × List ℕ × List ℕ → Played × List ℕ × List ℕ
+turnAt order places i world =
+    cond (reaches order i)
+    (landed places i world (step (chipAt (world .0 .chips) i) (arrayShare places i (world .1)) (securityShare places i (world .2)) (eventOf order)))
+    world
+
+-- each chip in turn
+unfoldable pub play : Order → ℕ → List Chip → List ℕ → List ℕ → Played × List ℕ × List ℕ
+play order count chips array security =
+    upTo (turnAt order (placesOf chips)) (placed count) (record { chips = chips; said = Nothing }, array, security)
+
+-- the reply: where no chip speaks, FF to a byte read and 00 to every other event
+abbrev pub unanswered : Event → ℕ
+unanswered Start = 0x00
+unanswered Stop = 0x00
+unanswered (Sent byte) = 0x00
+unanswered (Read nack) = 0xFF
+unanswered (Wp level) = 0x00
+unanswered CycleOver = 0x00
+unanswered PowerUp = 0x00
+
+abbrev pub lineReply : Event → Said → ℕ
+lineReply event said = replyOf (unanswered event) said

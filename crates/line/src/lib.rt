@@ -1,0 +1,122 @@
+// An event on the line: every chip that it reaches takes it, each on its own shares of the two stores.
+use base::number::least;
+use base::test::and;
+use base::test::or;
+use board::PLACES;
+use board::placed;
+use chip::Chip;
+use chip::event::Event;
+use control::Said;
+use lineup::places_of;
+use order::Order;
+use order::event_of;
+use order::hearing::clashes_with;
+use order::hearing::hears;
+use order::reaches;
+use parts::part::geometry_of;
+ghost use mathlib.Core.Path.{_≡_};
+ghost use Prim.Native.Nat.{ℕ};
+ghost use Rattle.line.specs.Line.{clash, heard, play, unanswered, lineReply};
+
+// What the line carries when nobody speaks: to a byte read, and to every other event.
+const IDLE: u8 = 0xFF;
+
+const SILENCE: u8 = 0x00;
+
+const ACKNOWLEDGE: u8 = 0x01;
+
+pub struct Played {
+    pub chips: [Chip; PLACES],
+    pub said: Said,
+}
+
+// Check 8 of a step.
+pub fn clash(event: Event, count: usize, chips: [Chip; PLACES]) -> bool
+    ensures { λ r. ⌜ r ≡ clash event count chips ⌝ }
+{
+    let n = placed(count);
+    let mut found = false;
+    let mut i: usize = 0;
+    while i < n {
+        let chip = chips[i];
+        let control = chip.control;
+        let phase = control.phase;
+        found = or(clashes_with(event, phase), found);
+        i += 1;
+    }
+    found
+}
+
+fn heard(before: Said, said: Said) -> Said
+    ensures { λ r. ⌜ r ≡ heard before said ⌝ }
+{
+    match said {
+        Said::Nothing => before,
+        Said::Ack => Said::Ack,
+        Said::Byte(byte) => Said::Byte(byte),
+    }
+}
+
+// Each chip in turn. Shares are cut at the stores' ends, so that stores of a wrong length are safe too; a step lets none through.
+pub fn play(
+    order: Order,
+    count: usize,
+    chips: [Chip; PLACES],
+    array: &mut [u8],
+    security: &mut [u8],
+) -> Played
+    ensures { λ r. ⌜ (r, now (array .exit), now (security .exit)) ≡ play order count chips (now (array .entry)) (now (security .entry)) ⌝ }
+{
+    let event = event_of(order);
+    let places = places_of(chips);
+    let n = placed(count);
+    let mut next = chips;
+    let mut said = Said::Nothing;
+    let mut at: usize = 0;
+    let mut sat: usize = 0;
+    let mut i: usize = 0;
+    while i < n {
+        let place = places[i];
+        let figures = geometry_of(place.part);
+        let end = least(at + figures.array as usize, array.len());
+        let send = least(sat + figures.security as usize, security.len());
+        let chip = next[i];
+        let control = chip.control;
+        let phase = control.phase;
+        if and(reaches(order, i), hears(event, phase)) {
+            let stepped = chip.step(&mut array[at..end], &mut security[sat..send], event);
+            let after = stepped.chip;
+            let more = stepped.said;
+            next[i] = after;
+            said = heard(said, more);
+        }
+        at = end;
+        sat = send;
+        i += 1;
+    }
+    Played { chips: next, said }
+}
+
+fn unanswered(event: Event) -> u8
+    ensures { λ r. ⌜ r ≡ unanswered event ⌝ }
+{
+    match event {
+        Event::Start => SILENCE,
+        Event::Stop => SILENCE,
+        Event::Sent(_) => SILENCE,
+        Event::Read(_) => IDLE,
+        Event::Wp(_) => SILENCE,
+        Event::CycleOver => SILENCE,
+        Event::PowerUp => SILENCE,
+    }
+}
+
+pub fn line_reply(event: Event, said: Said) -> u8
+    ensures { λ r. ⌜ r ≡ lineReply event said ⌝ }
+{
+    match said {
+        Said::Nothing => unanswered(event),
+        Said::Ack => ACKNOWLEDGE,
+        Said::Byte(byte) => byte,
+    }
+}

@@ -1,0 +1,28 @@
+-- Well formed, clause by clause (paper, "Well formed means"). Places past the count are not looked at.
+use Prim.Native.Nat.{ℕ}
+use mathlib.Core.Bool.{Bool, _&&_}
+use mathlib.Core.List.{List}
+use Rattle.base.specs.Fold.{allBelow, allPairs}
+use Rattle.chip.specs.declared.Chip.{Chip}
+use Rattle.wellformed.specs.Wellformed as chip
+use Rattle.wellformed.specs.Beside.{sideBySide}
+use Rattle.refusal.specs.Checks.{isPassed}
+use Rattle.board.specs.Place.{placed}
+use Rattle.board.specs.Board.{boardVerdict}
+use Rattle.lineup.specs.Chips.{chipAt, controlAt, placesOf}
+
+-- set-up would pass 1 to 4
+abbrev pub setUpPasses : ℕ → List Chip → Bool
+setUpPasses count chips = isPassed (boardVerdict count (placesOf chips))
+
+-- every counter and load position is inside its region, a busy chip is not chosen, only a chip taking data bytes holds a load, and
+-- every register's unused bits and ECS are 0
+abbrev pub chipsFit : ℕ → List Chip → Bool
+chipsFit count chips = allBelow (λ (i : ℕ). chip.wellFormed (chipAt chips i)) (placed count)
+
+-- no two chips are in each other's way: at most one is active, and while another awaits a byte it waits too
+abbrev pub chipsApart : ℕ → List Chip → Bool
+chipsApart count chips = allPairs (λ (i j : ℕ). sideBySide (controlAt chips i) (controlAt chips j)) (placed count)
+
+unfoldable pub wellFormed : ℕ → List Chip → Bool
+wellFormed count chips = setUpPasses count chips && (chipsFit count chips && chipsApart count chips)

@@ -1,0 +1,89 @@
+// The chips of a line beside each other: the board that they make, and what makes a state well formed.
+use base::test::and;
+use board::PLACES;
+use board::Place;
+use board::board_verdict;
+use board::placed;
+use chip::Chip;
+use refusal::is_passed;
+use wellformed::beside::side_by_side;
+ghost use mathlib.Core.Path.{_≡_};
+ghost use Prim.Native.Nat.{ℕ, _≤_, _<_};
+ghost use Rattle.base.specs.Fold.{allBelow, allPairs};
+ghost use Rattle.wellformed.specs.Wellformed as one;
+ghost use Rattle.wellformed.specs.Beside.{sideBySide};
+ghost use Rattle.lineup.specs.Chips.{chipAt, controlAt, placesOf};
+ghost use Rattle.lineup.specs.Wellformed.{wellFormed};
+
+// Every chip's part and strap, those past the count too.
+pub fn places_of(chips: [Chip; PLACES]) -> [Place; PLACES]
+    ensures { λ r. ⌜ r ≡ placesOf chips ⌝ }
+{
+    let mut places = [Place { part: 0, strap: 0 }; PLACES];
+    let mut i: usize = 0;
+    while i < PLACES {
+        let chip = chips[i];
+        let control = chip.control;
+        places[i] = Place {
+            part: control.part,
+            strap: control.strap,
+        };
+        i += 1;
+    }
+    places
+}
+
+// Each chip by itself.
+fn chips_fit(n: usize, chips: [Chip; PLACES]) -> bool
+    requires { ⌜ n ≤ 4 ⌝ }
+    ensures { λ r. ⌜ r ≡ allBelow (λ (i : ℕ). one.wellFormed (chipAt chips i)) n ⌝ }
+{
+    let mut fit = true;
+    let mut i: usize = 0;
+    while i < n {
+        let chip = chips[i];
+        fit = and(wellformed::well_formed(chip), fit);
+        i += 1;
+    }
+    fit
+}
+
+// Chip i and each one before it.
+fn beside_earlier(i: usize, chips: [Chip; PLACES]) -> bool
+    requires { ⌜ i < 4 ⌝ }
+    ensures { λ r. ⌜ r ≡ allBelow (λ (j : ℕ). sideBySide (controlAt chips i) (controlAt chips j)) i ⌝ }
+{
+    let chip = chips[i];
+    let control = chip.control;
+    let mut apart = true;
+    let mut j: usize = 0;
+    while j < i {
+        let other = chips[j];
+        let beside = other.control;
+        apart = and(side_by_side(control, beside), apart);
+        j += 1;
+    }
+    apart
+}
+
+fn chips_apart(n: usize, chips: [Chip; PLACES]) -> bool
+    requires { ⌜ n ≤ 4 ⌝ }
+    ensures { λ r. ⌜ r ≡ allPairs (λ (i j : ℕ). sideBySide (controlAt chips i) (controlAt chips j)) n ⌝ }
+{
+    let mut apart = true;
+    let mut i: usize = 0;
+    while i < n {
+        apart = and(beside_earlier(i, chips), apart);
+        i += 1;
+    }
+    apart
+}
+
+// Whatever numbers a state holds, it is well formed or not.
+pub fn well_formed(count: usize, chips: [Chip; PLACES]) -> bool
+    ensures { λ r. ⌜ r ≡ wellFormed count chips ⌝ }
+{
+    let n = placed(count);
+    let set_up = is_passed(board_verdict(count, places_of(chips)));
+    and(set_up, and(chips_fit(n, chips), chips_apart(n, chips)))
+}

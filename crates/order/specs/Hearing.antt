@@ -1,0 +1,26 @@
+-- An event and the phase of a chip that it meets.
+use mathlib.Core.Bool.{Bool, true, false}
+use Rattle.control.specs.declared.phase.Phase.{Phase}
+use Rattle.control.specs.Phase.{isSending, isTaking}
+use Rattle.chip.specs.declared.event.Event.{Event}
+use Rattle.chip.specs.declared.event.Event.the-variants.{Start, Stop, Sent, Read, Wp, CycleOver, PowerUp}
+
+-- a byte sent while the chip is sending, or a byte read while it is taking bytes (paper, refusal 8)
+abbrev pub clashesWith : Event → Phase → Bool
+clashesWith Start phase = false
+clashesWith Stop phase = false
+clashesWith (Sent byte) phase = isSending phase
+clashesWith (Read nack) phase = isTaking phase
+clashesWith (Wp level) phase = false
+clashesWith CycleOver phase = false
+clashesWith PowerUp phase = false
+
+-- it may take notice: a byte sent means nothing to a chip that takes none, a byte read nothing to one that sends none
+abbrev pub hears : Event → Phase → Bool
+hears Start phase = true
+hears Stop phase = true
+hears (Sent byte) phase = isTaking phase
+hears (Read nack) phase = isSending phase
+hears (Wp level) phase = true
+hears CycleOver phase = true
+hears PowerUp phase = true

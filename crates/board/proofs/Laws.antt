@@ -1,9 +1,13 @@
--- A count fills at most four places, and one that set-up lets through as many as it says.
-use Prim.Native.Nat.{ℕ, _≤_}
-use mathlib.Core.Bool.{Bool, true, false, not, _&&_, false≢true}
-use mathlib.Core.Path.{_≡_, refl, sym}
+-- A count fills at most four places, and one that set-up lets through as many as it says. Shares stand end to end, so each ends before
+-- the next starts.
+use Prim.Native.Nat.{ℕ, zero, suc, _+_, _*_, _^_, _<_, _≤_}
+use native.Mathlib.Decide.{decLt}
+use native.Mathlib.Omega.{arith}
+use mathlib.Core.Bool.{true, false, _&&_}
+use mathlib.Core.Path.{_≡_}
 use lib.Dec.{leb}
-use borrow.Author.Tests.{leb-true}
+use borrow.Author.Tests.{leb-true, not-false}
+use Rattle.base.specs.Fold.{upTo}
 use Rattle.base.proofs.Fold.{and-left, and-right}
 use Rattle.base.proofs.number.Laws.{least-first, least-most}
 use Rattle.board.specs.Place.{placed}
@@ -14,12 +18,27 @@ placed-most count = least-most count 4 .1
 
 pub right-count : (count : ℕ) → wrongCount count ≡ false → (1 ≤ count) × (count ≤ 4)
 right-count count right =
-    let both : (leb 1 count && leb count 4) ≡ true = holds _ right in
+    let both : (leb 1 count && leb count 4) ≡ true = not-false _ right in
     (leb-true _ _ (and-left _ _ both), leb-true _ _ (and-right (leb 1 count) _ both))
-  where
-    holds : (test : Bool) → not test ≡ false → test ≡ true
-    holds true is = refl
-    holds false is = absurd (false≢true (sym is))
 
 pub placed-all : (count : ℕ) → wrongCount count ≡ false → placed count ≡ count
 placed-all count right = least-first count 4 (right-count count right .1)
+
+-- a sum of shares, over any figure of the parts
+abbrev pub startOf : (ℕ → ℕ) → ℕ → ℕ
+startOf share i = upTo (λ (j at : ℕ). at + share j) i 0
+
+pub ends-before : (share : ℕ → ℕ) (i n : ℕ) → i < n → startOf share i + share i ≤ startOf share n
+unfolding upTo
+ends-before share i zero before = absurd (omega arith)
+ends-before share i (suc n) before = go (decLt i n) (ends-before share i n)
+  where
+    go : Dec (i < n) → (i < n → startOf share i + share i ≤ startOf share n) → startOf share i + share i ≤ startOf share n + share n
+    go (yes p) earlier = let so-far = earlier p in omega arith
+    go (no p) earlier = let last : i ≡ n = omega arith in rw last (omega arith)
+
+-- where every share is small, so is every start
+pub start-most : (share : ℕ → ℕ) → ((i : ℕ) → share i ≤ 2 ^ 24) → (n : ℕ) → startOf share n ≤ n * 2 ^ 24
+unfolding upTo
+start-most share small zero = omega arith
+start-most share small (suc n) = omega (arith, small n, start-most share small n)

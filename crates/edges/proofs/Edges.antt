@@ -1,12 +1,11 @@
 -- The paper's edges marked (P), computed from the definitions: one list, one theorem ("On both sides of each edge").
 use Prim.Native.Nat.{ℕ}
-use mathlib.Core.Bool.{Bool, false, cond}
+use mathlib.Core.Bool.{false}
 use mathlib.Core.List.{List, [], _∷_, _++_, map}
 use mathlib.Core.Path.{_≡_, refl}
 use lib.ListN.{replicate, set, getD}
 use Rattle.base.specs.Fold.{upTo}
 use Rattle.parts.specs.Part.{geometry24CSM01, geometry24CS32, geometryOf}
-use Rattle.parts.specs.Address.{shareAddress}
 use Rattle.regions.specs.Zone.{zoneOf}
 use Rattle.regions.specs.Counter.{counterIn}
 use Rattle.load.specs.Load.{holds, storePage}
@@ -19,6 +18,11 @@ use Rattle.chip.specs.declared.Stepped.{Stepped}
 use Rattle.chip.specs.declared.event.Event.{Event}
 use Rattle.chip.specs.declared.event.Event.the-variants.{Start, Stop, Sent, Read}
 use Rattle.chip.specs.Chip.{fresh, quiet, step}
+use Rattle.refusal.specs.Refusal.{statusOf}
+use Rattle.board.specs.declared.Place.{Place}
+use Rattle.board.specs.Place.{nowhere}
+use Rattle.board.specs.Shares.{arrayStart, securityStart}
+use Rattle.bus.specs.Setup.{setUp}
 use Rattle.edges.specs.Played.{played}
 
 abbrev m01 : ℕ
@@ -58,9 +62,16 @@ configuration confirmation =
 abbrev counterBy : ℕ → ℕ
 counterBy byte = played (Start ∷ Sent byte ∷ Sent 0x00 ∷ Sent 0x00 ∷ []) (quiet (fresh m01 2), [], []) .0 .chip .control .array
 
--- set-up's refusal of two chips that share an address byte, else 0
-abbrev refusal : Bool → ℕ
-refusal shared = cond shared 4 0
+-- a 24CSM01 and a 24CS32 on one board with stores that fit, and what set-up answers
+abbrev place : ℕ → ℕ → Place
+place part strap = record { part = part; strap = strap }
+
+abbrev setUpOf : Place → Place → ℕ
+setUpOf one two = statusOf (setUp 2 (one ∷ two ∷ nowhere ∷ nowhere ∷ []) (replicate 135168 0xFF) (replicate 576 0xFF) .verdict)
+
+-- three 24CS32
+abbrev three : List Place
+three = place cs32 0 ∷ place cs32 1 ∷ place cs32 2 ∷ nowhere ∷ []
 
 -- what the definitions give, and what the paper says
 pub edges : List (ℕ × ℕ)
@@ -88,13 +99,16 @@ edges =
     ∷ (counterBy 0xAA, 0x10000)
     ∷ (counterBy 0xA8, 0x00000)
     -- 24CSM01 strap 1 with 24CS32 strap 3: refusal 4; with strap 4: accepted
-    ∷ (refusal (shareAddress geometry24CSM01 1 geometry24CS32 3), 4)
-    ∷ (refusal (shareAddress geometry24CSM01 1 geometry24CS32 4), 0)
+    ∷ (setUpOf (place m01 1) (place cs32 3), 4)
+    ∷ (setUpOf (place m01 1) (place cs32 4), 0)
     -- LOCK 1 confirmed by 66h: unchanged
     ∷ (configuration 0x66, 0)
     ∷ (configuration 0x99, 3)
+    -- three 24CS32 need 12,288 and 192 bytes (paper, "The two memories")
+    ∷ (arrayStart three 3, 12288)
+    ∷ (securityStart three 3, 192)
     ∷ []
 
 pub edges-hold : map (λ (edge : ℕ × ℕ). edge .0) edges ≡ map (λ (edge : ℕ × ℕ). edge .1) edges
-unfolding edges step take loaded takeAddress takeChoice callOf geometryOf read stop holds storePage upTo
+unfolding edges step take loaded takeAddress takeChoice callOf geometryOf read stop holds storePage upTo setUp
 edges-hold = refl

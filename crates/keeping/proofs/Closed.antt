@@ -5,6 +5,7 @@ use mathlib.Core.Bool.{Bool, true, false, cond, not, _&&_}
 use mathlib.Core.List.{List}
 use mathlib.Core.Path.{_≡_, refl}
 use borrow.Author.Tests.{not-true}
+use Rattle.base.proofs.test.Laws.{either}
 use Rattle.base.proofs.Fold.{and-right}
 use Rattle.parts.specs.Part.{geometryOf}
 use Rattle.load.specs.declared.Load.{Load}
@@ -39,7 +40,6 @@ use Rattle.chip.specs.declared.Chip.{Chip}
 use Rattle.chip.specs.declared.event.Event.{Event}
 use Rattle.chip.specs.declared.event.Event.the-variants.{Start, Stop, Sent, Read, Wp, CycleOver, PowerUp}
 use Rattle.chip.specs.Chip as chip
-use Rattle.keeping.proofs.Good.{either}
 
 pub record Closed (P : Control → Type 0) : Type 0 where
   pub phase : (c : Control) (phase : Phase) → P c → P (inPhase phase c)

@@ -1,7 +1,7 @@
 -- The clauses of a chip together with those of the load it holds, and the few moves by which they are kept.
 use Prim.Native.Nat.{ℕ}
 use native.Mathlib.Omega.{arith}
-use mathlib.Core.Bool.{Bool, true, false, cond, not, _&&_}
+use mathlib.Core.Bool.{Bool, true, false, not, _&&_}
 use mathlib.Core.Path.{_≡_, refl}
 use Rattle.parts.specs.Part.{geometryOf}
 use Rattle.load.specs.declared.Load.{Load}
@@ -28,11 +28,6 @@ page c = geometryOf (c .part) .page
 unchosen : (b : Bool) → not (b && false) ≡ true
 unchosen true = refl
 unchosen false = refl
-
--- a choice by a test keeps what both sides keep
-pub either : {A : Type 0} (P : A → Type 0) (test : Bool) (x y : A) → P x → P y → P (cond test x y)
-either P true x y px py = px
-either P false x y px py = py
 
 module _ (c : Control) (f : Fits c) where
   -- no chosen chip is busy, so dropping a choice is always right

@@ -3,6 +3,7 @@ use Prim.Native.Nat.{ℕ}
 use mathlib.Core.List.{List}
 use mathlib.Core.Path.{_≡_, refl}
 use lib.ListN.{length}
+use Rattle.base.proofs.test.Laws.{either}
 use Rattle.parts.specs.Part.{geometryOf}
 use Rattle.load.specs.declared.Load.{Load}
 use Rattle.load.proofs.Laws.{store-page-length}
@@ -13,7 +14,6 @@ use Rattle.cycle.specs.Stop.{writesArray, writesSecurity, stopData}
 use Rattle.chip.specs.declared.Chip.{Chip}
 use Rattle.chip.specs.declared.event.Event.{Event}
 use Rattle.chip.specs.Chip.{step}
-use Rattle.keeping.proofs.Good.{either}
 use Rattle.keeping.proofs.Shares.{shares-keep}
 
 -- both shares are as long as two others

@@ -1,6 +1,7 @@
 -- What holds of the two shares as they are, and as a Stop leaves them that ends data, holds after every event.
 use Prim.Native.Nat.{ℕ}
 use mathlib.Core.List.{List}
+use Rattle.base.proofs.test.Laws.{either}
 use Rattle.control.specs.declared.phase.Phase.{Phase}
 use Rattle.control.specs.declared.phase.Phase.the-variants.{Standby, Busy, AwaitsAddress, AwaitsChoice, AwaitsWord, TakesData, SendsByte}
 use Rattle.control.specs.declared.phase.Data.{Data}
@@ -10,7 +11,6 @@ use Rattle.chip.specs.declared.Chip.{Chip}
 use Rattle.chip.specs.declared.event.Event.{Event}
 use Rattle.chip.specs.declared.event.Event.the-variants.{Start, Stop, Sent, Read, Wp, CycleOver, PowerUp}
 use Rattle.chip.specs.Chip as chip
-use Rattle.keeping.proofs.Good.{either}
 
 module _ (c : Chip) (array security : List ℕ) (P : List ℕ → List ℕ → Type 0) (now : P array security)
     (ends : (kind : Data) → P (stopData kind (c .control) (c .load) array security .1) (stopData kind (c .control) (c .load) array security .2)) where

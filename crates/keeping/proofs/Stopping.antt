@@ -4,6 +4,7 @@ use native.Mathlib.Nat.{mod-lt}
 use native.Mathlib.Omega.{arith}
 use mathlib.Core.Bool.{not, _&&_}
 use mathlib.Core.List.{List}
+use Rattle.base.proofs.test.Laws.{either}
 use Rattle.load.specs.declared.Load.{Load}
 use Rattle.control.specs.declared.Control.{Control}
 use Rattle.control.specs.declared.phase.Phase.{Phase}
@@ -18,7 +19,7 @@ use Rattle.control.specs.Bits.{lock}
 use Rattle.configuration.specs.Configuration.{confirms, stopConfiguration}
 use Rattle.cycle.specs.Stop.{writesArray, writesSecurity, stopData, stopIn}
 use Rattle.keeping.proofs.Fits.{Fits, locked-fits, configured-fits}
-use Rattle.keeping.proofs.Good.{either, ended-fits, started-fits}
+use Rattle.keeping.proofs.Good.{ended-fits, started-fits}
 
 -- a Stop: whatever it does, the load is gone after it
 came-fits : (came : Came) (c : Control) → Fits c → Fits (stopConfiguration came c)

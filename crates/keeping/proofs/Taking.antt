@@ -4,6 +4,7 @@ use Prim.Native.Nat.{ℕ, _<_}
 use mathlib.Core.Bool.{Bool, true, false, cond, _&&_}
 use mathlib.Core.Path.{_≡_, refl}
 use borrow.Author.Tests.{ltb-true}
+use Rattle.base.proofs.test.Laws.{either}
 use Rattle.parts.specs.Part.{geometryOf, Sound}
 use Rattle.parts.proofs.part.Laws.{sound-of}
 use Rattle.regions.proofs.page.Laws.{place-below, next-inside}
@@ -35,7 +36,7 @@ use Rattle.taking.specs.Taking.{takeData, takeIn, loadedData, loadedIn}
 use Rattle.wellformed.specs.Wellformed.{idPlaceFits}
 use Rattle.keeping.proofs.Fits.{Fits, in-phase-fits, showing-fits, choosing-fits, array-fits, security-fits}
 use Rattle.load.specs.Load.{empty}
-use Rattle.keeping.proofs.Good.{Good, page, either, dropped, standby, begins}
+use Rattle.keeping.proofs.Good.{Good, page, dropped, standby, begins}
 
 source-fits : (shown : Shown) → idPlaceFits (sourceOf shown) ≡ true
 source-fits ShowsSecurity = refl

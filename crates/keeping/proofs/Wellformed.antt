@@ -4,6 +4,7 @@ use mathlib.Core.Bool.{true, cond}
 use mathlib.Core.List.{List}
 use mathlib.Core.Path.{_≡_, refl}
 use borrow.Author.Tests.{lt-ltb}
+use Rattle.base.proofs.test.Laws.{either}
 use Rattle.base.proofs.Fold.{and-left, and-right, and-both}
 use Rattle.parts.proofs.part.Laws.{sound-of}
 use Rattle.control.specs.declared.phase.Phase.{Phase}
@@ -24,7 +25,7 @@ use Rattle.wellformed.specs.Wellformed.{isSetUp, controlFits}
 use Rattle.load.specs.Load.{empty}
 use Rattle.control.specs.Control as control
 use Rattle.parts.proofs.part.Laws.{array-some}
-use Rattle.keeping.proofs.Good.{Good, either, dropped, standby, emptied-good}
+use Rattle.keeping.proofs.Good.{Good, dropped, standby, emptied-good}
 use Rattle.keeping.proofs.Taking.{take-good}
 use Rattle.keeping.proofs.Sending.{read-good}
 use Rattle.keeping.proofs.Stopping.{stop-fits}

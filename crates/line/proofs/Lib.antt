@@ -1,2 +1,3 @@
 pub mod Deaf
 pub mod Turn
+pub mod Unique

@@ -4,7 +4,7 @@ use Prim.Native.Nat.{ℕ, _+_, _*_, _/_}
 use mathlib.Core.Bool.{Bool, cond, not, _&&_}
 use mathlib.Core.List.{List, [], _∷_, _++_}
 use lib.Dec.{eqb, ltb, leb}
-use denote.Ref.{RefT}
+use denote.Ref.{RefT, now}
 use Rattle.parts.specs.declared.part.Geometry.{Geometry}
 use Rattle.refusal.specs.declared.Refusal.{Refusal}
 use Rattle.refusal.specs.declared.Refusal.the-variants.{WrongValue}
@@ -16,6 +16,7 @@ use Rattle.board.specs.Shares.{figuresAt, arrayStart, securityStart}
 use Rattle.lineup.specs.Chips.{placesOf}
 use Rattle.bus.specs.declared.Bus.{Bus}
 use Rattle.bus.specs.Step.{entryChecks}
+use Rattle.pages.specs.Part.{PartOf}
 
 -- the pages of a store: those of the array, or of the security register
 abbrev pub pagesOf : Geometry → ℕ → ℕ
@@ -45,11 +46,15 @@ pub record Shown : Type 1 where
   pub size : ℕ
 
 -- where the question is not 0, the empty part at the start of the array store
-abbrev pub shownBy : Verdict → Bus → RefT (List ℕ) → RefT (List ℕ) → ℕ → ℕ → ℕ → Shown
-shownBy Passed bus array security chip store page =
-    record {
-      store = cond (eqb store 0) array security;
-      at = pageStart (placesOf (bus .chips)) chip store page;
-      size = figuresAt (placesOf (bus .chips)) chip .page;
-    }
-shownBy (Refused refusal) bus array security chip store page = record { store = array; at = 0; size = 0 }
+abbrev pub shownBy : Verdict → List Place → RefT (List ℕ) → RefT (List ℕ) → ℕ → ℕ → ℕ → Shown
+shownBy Passed places array security chip store page =
+    record { store = cond (eqb store 0) array security; at = pageStart places chip store page; size = figuresAt places chip .page }
+shownBy (Refused refusal) places array security chip store page = record { store = array; at = 0; size = 0 }
+
+abbrev pub pageShown : Bus → RefT (List ℕ) → RefT (List ℕ) → ℕ → ℕ → ℕ → Shown
+pageShown bus array security chip store page =
+    shownBy (pageVerdict bus (now array) (now security) chip store page) (placesOf (bus .chips)) array security chip store page
+
+-- what is handed back lies there and shows that
+abbrev pub Shows : Shown → RefT (List ℕ) → Type 0
+Shows shown part = PartOf (shown .store) part (shown .at) (shown .size)

@@ -1,4 +1,4 @@
--- A choice by a test is what stands on the side that the test takes.
+-- A choice by a test is what stands on the side that the test takes, and keeps what both sides keep.
 use mathlib.Core.Bool.{Bool, true, false, cond}
 use mathlib.Core.Path.{_≡_, _∙_, ap, sym}
 
@@ -8,3 +8,7 @@ module _ {A : Type 0} {test : Bool} {x : A} (first second : A) where
 
   pub second-one : test ≡ false → x ≡ second → x ≡ cond test first second
   second-one fails is = is ∙ ap (λ (b : Bool). cond b first second) (sym fails)
+
+pub either : {A : Type 0} (P : A → Type 0) (test : Bool) (x y : A) → P x → P y → P (cond test x y)
+either P true x y px py = px
+either P false x y px py = py

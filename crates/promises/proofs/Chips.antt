@@ -1,0 +1,148 @@
+-- Demand 2 over the line: every chip that an event reaches makes its own step of it, on its own shares as they were before the event.
+-- A turn puts one chip and its two shares in their places and leaves all others, so each chip finds its own as they were.
+use Prim.Native.Nat.{ℕ, zero, suc, _<_, _≤_}
+use native.Mathlib.Omega.{arith}
+use mathlib.Core.Bool.{Bool, true, false, cond}
+use mathlib.Core.List.{List}
+use mathlib.Core.Path.{_≡_, _∙_, refl, ap}
+use lib.ListN.{length}
+use lib.Seq.{set-getD}
+use Rattle.base.specs.Fold.{upTo}
+use Rattle.base.proofs.test.Laws.{either}
+use Rattle.base.proofs.Cut.{patched-same}
+use Rattle.control.specs.declared.Said.{Said}
+use Rattle.control.specs.declared.Said.the-variants.{Nothing}
+use Rattle.chip.specs.declared.Chip.{Chip}
+use Rattle.chip.specs.declared.Stepped.{Stepped}
+use Rattle.chip.specs.Chip.{quiet, step}
+use Rattle.keeping.proofs.Lengths.{Long, lengths-kept}
+use Rattle.board.specs.declared.Place.{Place}
+use Rattle.board.specs.Place.{placed}
+use Rattle.board.specs.Shares.{figuresAt, arrayStart, securityStart}
+use Rattle.board.proofs.Laws.{placed-most}
+use Rattle.order.specs.declared.Order.{Order}
+use Rattle.order.specs.Order.{reaches, eventOf}
+use Rattle.lineup.specs.Chips.{noChip, chipAt, placesOf}
+use Rattle.line.specs.declared.Played.{Played}
+use Rattle.line.specs.Line.{arrayShare, securityShare, heard, landed, turnAt, play}
+use Rattle.promises.specs.Own.{own, gathered}
+use Rattle.promises.proofs.Filled.{filled, filled-length, filled-past, filled-at, stored, Stored, all-stored}
+
+abbrev World : Type 0
+World = Played × List ℕ × List ℕ
+
+-- what chip i makes of an event: `own`, of a chip and two shares
+abbrev taken : Order → ℕ → Chip → List ℕ → List ℕ → Stepped × List ℕ × List ℕ
+taken order i c array security = cond (reaches order i) (step c array security (eventOf order)) (quiet c, array, security)
+
+taken-long : (order : Order) (i : ℕ) (c : Chip) (array security : List ℕ) → Long array security (taken order i c array security .1) (taken order i c array security .2)
+taken-long order i c array security =
+    either (λ (x : Stepped × List ℕ × List ℕ). Long array security (x .1) (x .2)) (reaches order i) _ _
+    (lengths-kept c array security (eventOf order))
+    (refl, refl)
+
+-- every turn lands what its chip makes of the event: a chip that is not reached is put back as it is
+module _ (order : Order) (places : List Place) (i : ℕ) (world : World) where
+  abbrev c : Chip
+  c = chipAt (world .0 .chips) i
+
+  abbrev a : List ℕ
+  a = arrayShare places i (world .1)
+
+  abbrev s : List ℕ
+  s = securityShare places i (world .2)
+
+  turn-lands : turnAt order places i world ≡ landed places i world (taken order i c a s)
+  turn-lands = go (reaches order i)
+    where
+      go : (reached : Bool) → cond reached (landed places i world (step c a s (eventOf order))) world ≡ landed places i world (cond reached (step c a s (eventOf order)) (quiet c, a, s))
+      go true = refl
+      go false =
+          rw (set-getD (world .0 .chips) i noChip, patched-same (arrayStart places i) (figuresAt places i .array) (world .1), patched-same (securityStart places i) (figuresAt places i .security) (world .2))
+
+module _ (order : Order) (count : ℕ) (chips : List Chip) (array security : List ℕ) (four : length chips ≡ 4) (array-fits : length array ≡ arrayStart (placesOf chips) (placed count)) (security-fits : length security ≡ securityStart (placesOf chips) (placed count)) where
+  abbrev places : List Place
+  places = placesOf chips
+
+  abbrev mine : ℕ → Stepped × List ℕ × List ℕ
+  mine i = own order chips array security i
+
+  abbrev myChip : ℕ → Chip
+  myChip i = mine i .0 .chip
+
+  abbrev myArray : ℕ → List ℕ
+  myArray i = mine i .1
+
+  abbrev mySecurity : ℕ → List ℕ
+  mySecurity i = mine i .2
+
+  abbrev arraySize : ℕ → ℕ
+  arraySize i = figuresAt places i .array
+
+  abbrev securitySize : ℕ → ℕ
+  securitySize i = figuresAt places i .security
+
+  -- the exchanges of both stores keep what they should
+  array-stored : (n : ℕ) → n ≤ placed count → Stored arraySize myArray array n
+  array-stored = all-stored arraySize myArray array (placed count) array-fits (λ i. taken-long order i _ _ _ .0)
+
+  security-stored : (n : ℕ) → n ≤ placed count → Stored securitySize mySecurity security n
+  security-stored = all-stored securitySize mySecurity security (placed count) security-fits (λ i. taken-long order i _ _ _ .1)
+
+  -- the first n chips have landed, each with its own
+  abbrev moved : ℕ → World
+  moved n = (
+    record {
+      chips = filled myChip n chips;
+      said = upTo (λ (i : ℕ) (said : Said). heard said (mine i .0 .said)) n Nothing;
+    },
+    stored arraySize myArray n array,
+    stored securitySize mySecurity n security,
+  )
+
+  -- the next chip and its shares are then as they were
+  finds : (n : ℕ) → n < placed count → taken order n (chipAt (moved n .0 .chips) n) (arrayShare places n (moved n .1)) (securityShare places n (moved n .2)) ≡ mine n
+  finds n below =
+      rw (
+        filled-past myChip chips n n noChip (omega arith),
+        array-stored n (omega arith) .past n (omega arith),
+        security-stored n (omega arith) .past n (omega arith),
+      )
+
+  turns : (n : ℕ) → n ≤ placed count → upTo (turnAt order places) n (record { chips = chips; said = Nothing }, array, security) ≡ moved n
+  unfolding upTo
+  turns zero below = refl
+  turns (suc n) below =
+      ap (turnAt order places n) (turns n (omega arith))
+      ∙ turn-lands order places n (moved n)
+      ∙ ap (landed places n (moved n)) (finds n below)
+
+  abbrev after : World
+  after = play order count chips array security
+
+  all-moved : after ≡ moved (placed count)
+  unfolding play
+  all-moved = turns (placed count) (omega arith)
+
+  pub each-chip-takes-its-own : (i : ℕ) → i < placed count
+      → (chipAt (after .0 .chips) i ≡ own order chips array security i .0 .chip)
+      × (arrayShare (placesOf chips) i (after .1) ≡ own order chips array security i .1)
+      × (securityShare (placesOf chips) i (after .2) ≡ own order chips array security i .2)
+  each-chip-takes-its-own i below =
+      rw all-moved (
+        filled-at myChip chips (placed count) i noChip (omega (arith, four, placed-most count)) below,
+        array-stored (placed count) (omega arith) .here i below,
+        security-stored (placed count) (omega arith) .here i below,
+      )
+
+  pub the-rest-stays : (i : ℕ) → placed count ≤ i → chipAt (after .0 .chips) i ≡ chipAt chips i
+  the-rest-stays i past = rw all-moved (filled-past myChip chips (placed count) i noChip past)
+
+  pub answer-is-gathered : after .0 .said ≡ gathered order count chips array security
+  answer-is-gathered = rw all-moved
+
+  pub stores-keep-their-length : (length (after .1) ≡ length array) × (length (after .2) ≡ length security)
+  stores-keep-their-length = rw all-moved (array-stored (placed count) (omega arith) .long, security-stored (placed count) (omega arith) .long)
+
+  pub chips-stay-four : length (after .0 .chips) ≡ 4
+  chips-stay-four = rw all-moved (filled-length myChip chips (placed count) ∙ four)

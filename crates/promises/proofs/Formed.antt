@@ -1,0 +1,89 @@
+-- What the tests of a well-formed bus say, clause by clause: where they pass, each clause holds of each chip and of each two chips; and
+-- where all of that holds, they pass.
+use Prim.Native.Nat.{ℕ, _<_}
+use native.Mathlib.Omega.{arith}
+use mathlib.Core.Bool.{Bool, true, false, not}
+use mathlib.Core.List.{List}
+use mathlib.Core.Path.{_≡_, ap}
+use lib.Dec.{eqb}
+use lib.ListN.{length, replicate}
+use borrow.Author.Tests.{eqb-true, eq-eqb, not-false}
+use Rattle.base.proofs.Fold.{and-left, and-right, and-both, or-none, all-each, all-at, all-pairs-each, all-pairs-at}
+use Rattle.chip.specs.declared.Chip.{Chip}
+use Rattle.wellformed.specs.Wellformed as alone
+use Rattle.wellformed.specs.Beside.{sideBySide}
+use Rattle.refusal.specs.declared.Verdict.the-variants.{Passed}
+use Rattle.refusal.specs.Refusal.{statusOf}
+use Rattle.refusal.specs.Checks.{firstOf, isPassed}
+use Rattle.refusal.proofs.Checks.{Checks, NoneHolds, passed-exactly-when}
+use Rattle.board.specs.declared.Place.{Place}
+use Rattle.board.specs.Place.{nowhere, placeAt, placed}
+use Rattle.board.specs.Board.{boardVerdict}
+use Rattle.board.specs.Shares.{arrayStart, securityStart, wrongLength}
+use Rattle.lineup.specs.Chips.{chipAt, controlAt, placeOf, placesOf}
+use Rattle.lineup.specs.Wellformed.{setUpPasses, chipsFit, wellFormed}
+use Rattle.bus.specs.declared.Bus.{Bus}
+use Rattle.bus.specs.Step.{entryChecks}
+use Rattle.bus.proofs.Entry.{passed, entered}
+use Rattle.promises.proofs.Filled.{filled-at}
+
+-- a place is its chip's part and strap
+pub place-at : (chips : List Chip) (i : ℕ) → i < 4 → placeAt (placesOf chips) i ≡ placeOf (controlAt chips i)
+unfolding placesOf
+place-at chips i below = filled-at (λ (k : ℕ). placeOf (controlAt chips k)) (replicate 4 nowhere) 4 i nowhere (omega arith) below
+
+-- checks that pass find nothing
+pub none-holds : (checks : Checks) → firstOf checks ≡ Passed → NoneHolds checks
+none-holds checks passed = passed-exactly-when checks .0 (ap statusOf passed)
+
+-- what `wellFormed` tests
+pub record Formed (count : ℕ) (chips : List Chip) : Type 0 where
+  pub set-up : boardVerdict count (placesOf chips) ≡ Passed
+  pub fit : (i : ℕ) → i < placed count → alone.wellFormed (chipAt chips i) ≡ true
+  pub apart : (i j : ℕ) → i < placed count → j < i → sideBySide (controlAt chips i) (controlAt chips j) ≡ true
+
+module _ (count : ℕ) (chips : List Chip) where
+  abbrev fits : ℕ → Bool
+  fits i = alone.wellFormed (chipAt chips i)
+
+  abbrev beside : ℕ → ℕ → Bool
+  beside i j = sideBySide (controlAt chips i) (controlAt chips j)
+
+  pub formed-of : wellFormed count chips ≡ true → Formed count chips
+  unfolding wellFormed
+  formed-of test =
+      let rest = and-right (setUpPasses count chips) _ test in
+      record {
+        set-up = passed _ (and-left _ _ test);
+        fit = λ i below. all-at fits (placed count) i (and-left (chipsFit count chips) _ rest) below;
+        apart = λ i j below before. all-pairs-at beside (placed count) i j (and-right (chipsFit count chips) _ rest) below before;
+      }
+
+  pub of-formed : Formed count chips → wellFormed count chips ≡ true
+  unfolding wellFormed
+  of-formed formed =
+      and-both (setUpPasses count chips) _ (ap isPassed (formed .set-up))
+      (and-both (chipsFit count chips) _ (all-each fits (placed count) (formed .fit)) (all-pairs-each beside (placed count) (formed .apart)))
+
+-- what the checks at entry ask
+pub right-lengths : (count : ℕ) (places : List Place) (array security : ℕ) → wrongLength count places array security ≡ false
+    → (array ≡ arrayStart places (placed count)) × (security ≡ securityStart places (placed count))
+right-lengths count places array security right =
+    let both = or-none (not (eqb array (arrayStart places (placed count)))) _ right in
+    (eqb-true _ _ (not-false _ (both .0)), eqb-true _ _ (not-false _ (both .1)))
+
+module _ (bus : Bus) (array security : List ℕ) where
+  abbrev places : List Place
+  places = placesOf (bus .chips)
+
+  abbrev pub Ready : Type 0
+  Ready =
+      (wellFormed (bus .count) (bus .chips) ≡ true)
+      × (length array ≡ arrayStart places (placed (bus .count)))
+      × (length security ≡ securityStart places (placed (bus .count)))
+
+  pub ready-of : firstOf (entryChecks bus array security) ≡ Passed → Ready
+  ready-of enters = let e = entered bus array security enters in (e .formed, e .array-fits, e .security-fits)
+
+  pub of-ready : Ready → firstOf (entryChecks bus array security) ≡ Passed
+  of-ready ready = rw (ready .0, eq-eqb _ _ (ready .1), eq-eqb _ _ (ready .2))

@@ -1,0 +1,153 @@
+-- Every event keeps a well-formed bus well formed: each chip keeps its place and stays well formed by itself, and two chips stay side by
+-- side, since an event reaches both, or it names one and moves it into no chip's way.
+use Prim.Native.Nat.{ℕ, _<_}
+use native.Mathlib.Decide.{decLt}
+use native.Mathlib.Omega.{arith}
+use mathlib.Core.Bool.{true, false}
+use mathlib.Core.List.{List}
+use mathlib.Core.Path.{_≡_, _∙_, refl, ap}
+use lib.Dec.{eqb}
+use lib.ListN.{length, set, replicate}
+use Rattle.base.proofs.test.Laws.{either}
+use Rattle.base.proofs.Fold.{up-same, any-pair-none}
+use Rattle.chip.specs.declared.Chip.{Chip}
+use Rattle.chip.specs.declared.Stepped.{Stepped}
+use Rattle.chip.specs.declared.event.Event.{Event}
+use Rattle.wellformed.specs.Wellformed as alone
+use Rattle.wellformed.specs.Beside.{sideBySide}
+use Rattle.keeping.proofs.Wellformed.{kept}
+use Rattle.keeping.proofs.Registers.{part-kept, strap-kept}
+use Rattle.keeping.proofs.Beside.{isNamed, named-kept, side-by-side-kept, beside-sym}
+use Rattle.refusal.specs.declared.Verdict.{Verdict}
+use Rattle.refusal.specs.declared.Verdict.the-variants.{Passed, Refused}
+use Rattle.refusal.specs.Checks.{firstOf}
+use Rattle.board.specs.Place.{nowhere, placed}
+use Rattle.board.specs.Board.{sharedAddress, boardChecks, boardVerdict}
+use Rattle.board.specs.Shares.{arrayStart, securityStart}
+use Rattle.board.proofs.Laws.{placed-most}
+use Rattle.order.specs.declared.Order.{Order}
+use Rattle.order.specs.declared.Order.the-variants.{ToAll, ToOne}
+use Rattle.order.specs.Order.{kindOf, orderOf, reaches, eventOf}
+use Rattle.lineup.specs.Chips.{chipAt, controlAt, placeOf, placesOf}
+use Rattle.lineup.specs.Wellformed.{wellFormed}
+use Rattle.line.specs.declared.Played.{Played}
+use Rattle.line.specs.Line.{play}
+use Rattle.bus.specs.declared.Bus.{Bus}
+use Rattle.bus.specs.Step.{entryChecks, eventChecks, stepBy, played, event}
+use Rattle.promises.specs.Own.{own}
+use Rattle.promises.proofs.Chips.{each-chip-takes-its-own, the-rest-stays, stores-keep-their-length, chips-stay-four}
+use Rattle.promises.proofs.Formed.{place-at, none-holds, Formed, formed-of, of-formed, Ready, ready-of, of-ready}
+
+-- an event that names one chip is of a kind that moves it into no chip's way
+abbrev Fair : Order → Type 0
+Fair (ToAll e) = Unit {0}
+Fair (ToOne k e) = isNamed e ≡ true
+
+order-fair : (word : ℕ) → Fair (orderOf word)
+unfolding orderOf
+order-fair word =
+    either Fair (eqb (kindOf word) 1) _ _ tt
+    (either Fair (eqb (kindOf word) 2) _ _ tt
+    (either Fair (eqb (kindOf word) 3) _ _ tt
+    (either Fair (eqb (kindOf word) 4) _ _ tt
+    (either Fair (eqb (kindOf word) 5) _ _ refl
+    (either Fair (eqb (kindOf word) 6) _ _ refl
+    (either Fair (eqb (kindOf word) 7) _ _ refl tt))))))
+
+module _ (order : Order) (count : ℕ) (chips : List Chip) (array security : List ℕ) (four : length chips ≡ 4) (array-fits : length array ≡ arrayStart (placesOf chips) (placed count)) (security-fits : length security ≡ securityStart (placesOf chips) (placed count)) where
+  abbrev world : Played × List ℕ × List ℕ
+  world = play order count chips array security
+
+  abbrev after : List Chip
+  after = world .0 .chips
+
+  abbrev mine : Order → ℕ → Chip
+  mine o i = own o chips array security i .0 .chip
+
+  takes : (i : ℕ) → i < placed count → chipAt after i ≡ mine order i
+  takes i below = each-chip-takes-its-own order count chips array security four array-fits security-fits i below .0
+
+  -- no chip changes its part or its strap, and those past the count stay
+  own-place : (i : ℕ) → placeOf (mine order i .control) ≡ placeOf (controlAt chips i)
+  own-place i =
+      either (λ (x : Stepped × List ℕ × List ℕ). placeOf (x .0 .chip .control) ≡ placeOf (controlAt chips i)) (reaches order i) _ _
+      (rw (part-kept (chipAt chips i) _ _ (eventOf order), strap-kept (chipAt chips i) _ _ (eventOf order)))
+      refl
+
+  place-kept : (i : ℕ) → Dec (i < placed count) → placeOf (controlAt after i) ≡ placeOf (controlAt chips i)
+  place-kept i (yes p) = ap (λ (c : Chip). placeOf (c .control)) (takes i p) ∙ own-place i
+  place-kept i (no p) =
+      ap (λ (c : Chip). placeOf (c .control)) (the-rest-stays order count chips array security four array-fits security-fits i (omega arith))
+
+  pub places-kept : placesOf after ≡ placesOf chips
+  unfolding placesOf
+  places-kept = up-same _ _ 4 (λ i places below. ap (set places i) (place-kept i (decLt i (placed count)))) (replicate 4 nowhere)
+
+  -- an event that names a chip keeps every chip beside any other, whether it reaches it or not
+  one-kept : (k : ℕ) (e : Event) → isNamed e ≡ true → (i : ℕ) (d : Chip) → sideBySide (controlAt chips i) (d .control) ≡ true
+      → sideBySide (mine (ToOne k e) i .control) (d .control) ≡ true
+  one-kept k e named i d test =
+      either (λ (x : Stepped × List ℕ × List ℕ). sideBySide (x .0 .chip .control) (d .control) ≡ true) (eqb i k) _ _
+      (named-kept (chipAt chips i) d _ _ e named test)
+      test
+
+  module _ (formed : Formed count chips) where
+    fit-now : (i : ℕ) → i < placed count → alone.wellFormed (mine order i) ≡ true
+    fit-now i below =
+        either (λ (x : Stepped × List ℕ × List ℕ). alone.wellFormed (x .0 .chip) ≡ true) (reaches order i) _ _
+        (kept (chipAt chips i) _ _ (eventOf order) (formed .fit i below))
+        (formed .fit i below)
+
+    -- the last of set-up's checks
+    unshared : (i j : ℕ) → i < placed count → j < i → sharedAddress (placesOf chips) i j ≡ false
+    unfolding boardVerdict
+    unshared i j =
+        any-pair-none (sharedAddress (placesOf chips)) (placed count) i j
+        (none-holds (boardChecks count (placesOf chips)) (formed .set-up) .1 .1 .1 .0)
+
+    -- an event to all moves both chips at once; one that names a chip moves them one after the other
+    apart-now : (o : Order) → Fair o → (i j : ℕ) → i < placed count → j < i → sideBySide (mine o i .control) (mine o j .control) ≡ true
+    apart-now (ToAll e) fair i j below before =
+        side-by-side-kept (chipAt chips i) (chipAt chips j) _ _ _ _ e (formed .fit i below) (formed .fit j (omega arith))
+        (rw (place-at chips i (omega (arith, placed-most count)), place-at chips j (omega (arith, placed-most count))) at (unshared i j below before))
+        (formed .apart i j below before)
+    apart-now (ToOne k e) fair i j below before =
+        let c = mine (ToOne k e) i in
+        beside-sym (mine (ToOne k e) j .control) (c .control)
+        (one-kept k e fair j c
+        (beside-sym (c .control) (controlAt chips j) (one-kept k e fair i (chipAt chips j) (formed .apart i j below before))))
+
+    formed-kept : Fair order → Formed count after
+    formed-kept fair =
+        record {
+          set-up = rw places-kept (formed .set-up);
+          fit = λ i below. rw (takes i below) (fit-now i below);
+          apart = λ i j below before. rw (controlAt, takes i below, takes j (omega arith)) (apart-now order fair i j below before);
+        }
+
+    ready-kept : Fair order → Ready (record { count = count; chips = after }) (world .1) (world .2)
+    ready-kept fair =
+        let (array-long, security-long) = stores-keep-their-length order count chips array security four array-fits security-fits in
+        (of-formed count after (formed-kept fair), rw places-kept (array-long ∙ array-fits), rw places-kept (security-long ∙ security-fits))
+
+pub well-formed-kept : (word count : ℕ) (chips : List Chip) (array security : List ℕ) → length chips ≡ 4
+    → length array ≡ arrayStart (placesOf chips) (placed count)
+    → length security ≡ securityStart (placesOf chips) (placed count)
+    → wellFormed count chips ≡ true
+    → wellFormed count (play (orderOf word) count chips array security .0 .chips) ≡ true
+well-formed-kept word count chips array security four array-fits security-fits formed =
+    ready-kept (orderOf word) count chips array security four array-fits security-fits (formed-of count chips formed) (order-fair word) .0
+
+-- an event that is played keeps all of it, and one that is refused leaves everything
+pub entry-kept : (bus : Bus) (array security : List ℕ) (word : ℕ) → length (bus .chips) ≡ 4 → firstOf (entryChecks bus array security) ≡ Passed
+    → let next = event bus array security word in (firstOf (entryChecks (next .0 .bus) (next .1) (next .2)) ≡ Passed) × (length (next .0 .bus .chips) ≡ 4)
+unfolding event played
+entry-kept bus array security word four passed = go (firstOf (eventChecks bus word))
+  where
+    go : (verdict : Verdict) → let next = stepBy verdict bus array security word in (firstOf (entryChecks (next .0 .bus) (next .1) (next .2)) ≡ Passed) × (length (next .0 .bus .chips) ≡ 4)
+    go Passed =
+        let (formed, array-fits, security-fits) = ready-of bus array security passed in
+        let next = played (orderOf word) bus array security in
+        let ready = ready-kept (orderOf word) (bus .count) (bus .chips) array security four array-fits security-fits (formed-of _ _ formed) (order-fair word) in
+        (of-ready (next .0 .bus) (next .1) (next .2) ready, chips-stay-four (orderOf word) (bus .count) (bus .chips) array security four array-fits security-fits)
+    go (Refused refusal) = (passed, four)

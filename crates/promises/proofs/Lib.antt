@@ -1,0 +1,11 @@
+mod Filled
+pub mod Chips
+mod Formed
+pub mod Steps
+pub mod Kept
+pub mod Setup
+pub mod Refused
+pub mod Exactly
+pub mod Runs
+mod Sent
+pub mod Replies

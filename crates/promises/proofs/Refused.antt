@@ -1,0 +1,65 @@
+-- Demand 1, refused means untouched: an operation that answers a refusal returns the state that it was given and leaves both stores.
+-- Its checks decide before anything moves, and an operation whose checks pass answers no refusal.
+use Prim.Native.Nat.{ℕ}
+use mathlib.Core.Bool.{Bool, true, false, true≢false}
+use mathlib.Core.List.{List}
+use mathlib.Core.Path.{_≡_, refl, ap}
+use lib.ListN.{getD, set}
+use Rattle.base.specs.Word.{wordOf}
+use Rattle.refusal.specs.declared.Refusal.{Refusal}
+use Rattle.refusal.specs.declared.Verdict.{Verdict}
+use Rattle.refusal.specs.declared.Verdict.the-variants.{Passed, Refused}
+use Rattle.refusal.specs.declared.Answer.{Answer}
+use Rattle.refusal.specs.declared.Answer.the-variants.{Done, Denied}
+use Rattle.refusal.specs.Refusal.{numberOf}
+use Rattle.refusal.specs.Checks.{firstOf, isPassed}
+use Rattle.board.specs.declared.Place.{Place}
+use Rattle.bus.specs.declared.Bus.{Bus}
+use Rattle.bus.specs.Setup.{setUpChecks, empty, setUpBy, setUp}
+use Rattle.bus.specs.Step.{eventChecks, stepChecks, refused, played, stepBy, event, step}
+use Rattle.bus.specs.Run.{runChecks, Tape, noted, eventAt, runBy, run}
+
+abbrev isDone : Answer → Bool
+isDone (Done reply) = true
+isDone (Denied refusal) = false
+
+pub refused-set-up-is-empty : (count : ℕ) (places : List Place) (array security : List ℕ) (refusal : Refusal)
+    → setUp count places array security .verdict ≡ Refused refusal
+    → setUp count places array security .bus ≡ empty
+unfolding setUp
+refused-set-up-is-empty count places array security refusal = go (firstOf (setUpChecks count places array security))
+  where
+    go : (verdict : Verdict) → setUpBy verdict count places .verdict ≡ Refused refusal → setUpBy verdict count places .bus ≡ empty
+    go Passed is = absurd (true≢false (ap isPassed is))
+    go (Refused other) is = refl
+
+module _ (bus : Bus) (array security : List ℕ) where
+  -- whatever was checked
+  denied-leaves-all : (word : ℕ) (refusal : Refusal) (verdict : Verdict) → stepBy verdict bus array security word .0 .answer ≡ Denied refusal
+      → stepBy verdict bus array security word ≡ refused refusal bus array security
+  unfolding played
+  denied-leaves-all word refusal Passed is = absurd (true≢false (ap isDone is))
+  denied-leaves-all word refusal (Refused other) is = ap (λ (answer : Answer). (record { bus = bus; answer = answer }, array, security)) is
+
+  pub refused-step-leaves-all : (word : ℕ) (refusal : Refusal) → step bus array security word .0 .answer ≡ Denied refusal
+      → step bus array security word ≡ (record { bus = bus; answer = Denied refusal }, array, security)
+  unfolding step
+  refused-step-leaves-all word refusal = denied-leaves-all word refusal (firstOf (stepChecks bus array security word))
+
+  pub refused-run-leaves-all : (events answers : List ℕ) (refusal : Refusal) → run bus array security events answers .0 ≡ Refused refusal
+      → run bus array security events answers ≡ (Refused refusal, (bus, array, security, answers))
+  unfolding run
+  refused-run-leaves-all events answers refusal = go (firstOf (runChecks bus array security events answers)) (bus, array, security, answers)
+    where
+      go : (verdict : Verdict) (tape : Tape) → runBy verdict events tape .0 ≡ Refused refusal → runBy verdict events tape ≡ (Refused refusal, tape)
+      go Passed tape is = absurd (true≢false (ap isPassed is))
+      go (Refused other) tape is = ap (λ (verdict : Verdict). (verdict, tape)) is
+
+-- in a run, a refused event leaves all but its place in the answers
+pub refused-event-leaves-all-but-its-answer : (events : List ℕ) (i : ℕ) (tape : Tape) (refusal : Refusal)
+    → event (tape .0) (tape .1) (tape .2) (getD events i 0) .0 .answer ≡ Denied refusal
+    → eventAt events i tape ≡ (tape .0, tape .1, tape .2, set (tape .3) i (wordOf (numberOf refusal) 0))
+unfolding event
+refused-event-leaves-all-but-its-answer events i tape refusal is =
+    let word = getD events i 0 in
+    ap (noted i (tape .3)) (denied-leaves-all (tape .0) (tape .1) (tape .2) word refusal (firstOf (eventChecks (tape .0) word)) is)

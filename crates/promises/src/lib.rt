@@ -1,0 +1,1 @@
+// Theorems only: what the bench promises of its bus (docs/PROMISES.md).

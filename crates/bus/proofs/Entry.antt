@@ -1,8 +1,8 @@
 -- What a state and stores that pass the entry checks are: well formed, so of one to four chips, and of the right lengths.
 use Prim.Native.Nat.{ℕ, _≤_}
-use mathlib.Core.Bool.{Bool, true, false, not, _||_, false≢true}
+use mathlib.Core.Bool.{true, false, not, false≢true}
 use mathlib.Core.List.{List}
-use mathlib.Core.Path.{_≡_, _∙_, refl, sym, ap}
+use mathlib.Core.Path.{_≡_, refl, ap}
 use lib.Dec.{eqb}
 use lib.ListN.{length}
 use borrow.Author.Tests.{eqb-true, not-false}
@@ -14,7 +14,7 @@ use Rattle.refusal.specs.Checks.{firstOf, isPassed}
 use Rattle.refusal.proofs.Checks.{passed-exactly-when}
 use Rattle.board.specs.Place.{placed}
 use Rattle.board.specs.Board.{wrongCount, boardChecks, boardVerdict}
-use Rattle.board.specs.Shares.{arrayStart, securityStart, wrongLength}
+use Rattle.board.specs.Shares.{arrayStart, securityStart}
 use Rattle.board.proofs.Laws.{right-count, placed-all}
 use Rattle.lineup.specs.Chips.{placesOf}
 use Rattle.lineup.specs.Wellformed.{wellFormed}

@@ -17,7 +17,7 @@ use refusal::Refusal;
 use refusal::Verdict;
 use refusal::answer_word;
 ghost use mathlib.Core.Path.{_≡_};
-ghost use Prim.Native.Nat.{ℕ, _≤_};
+ghost use Prim.Native.Nat.{_≤_};
 ghost use lib.ListN.{length};
 ghost use Rattle.refusal.specs.Checks.{firstOf};
 ghost use Rattle.board.specs.Place.{placed};

@@ -15,7 +15,6 @@ use order::hearing::hears;
 use order::reaches;
 use parts::part::geometry_of;
 ghost use mathlib.Core.Path.{_≡_};
-ghost use Prim.Native.Nat.{ℕ};
 ghost use Rattle.line.specs.Line.{clash, heard, play, unanswered, lineReply};
 
 // What the line carries when nobody speaks: to a byte read, and to every other event.

@@ -17,8 +17,7 @@ ghost use lib.ListN.{length};
 ghost use Rattle.pages.specs.Part.{PartOf};
 ghost use Rattle.pages.specs.Page.{pagesOf, pageExists, pageStart, pageVerdict, pageShown, Shows};
 ghost use Rattle.parts.specs.Part.{geometryOf};
-ghost use Rattle.board.specs.Shares.{figuresAt, arrayStart, securityStart};
-ghost use mathlib.Core.Bool.{true};
+ghost use Rattle.board.specs.Shares.{figuresAt};
 
 // The number of the array store; the security store is 1.
 const ARRAY: u8 = 0;

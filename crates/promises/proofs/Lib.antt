@@ -9,3 +9,4 @@ pub mod Exactly
 pub mod Runs
 mod Sent
 pub mod Replies
+pub mod Odd

@@ -15,7 +15,7 @@ use Rattle.lineup.specs.Chips.{chipAt, placesOf}
 use Rattle.line.specs.Line.{arrayShare, securityShare, lineReply}
 use Rattle.bus.specs.declared.Bus.{Bus}
 use Rattle.bus.specs.declared.Stepped.{Stepped}
-use Rattle.bus.specs.Step.{entryChecks, stepChecks, stepBy, played, step}
+use Rattle.bus.specs.Step.{stepChecks, stepBy, played, step}
 use Rattle.bus.proofs.Entry.{Entered, entered}
 use Rattle.promises.specs.Own.{own, gathered}
 use Rattle.promises.proofs.Chips.{each-chip-takes-its-own, the-rest-stays, answer-is-gathered}

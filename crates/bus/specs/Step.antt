@@ -8,7 +8,7 @@ use Rattle.refusal.specs.declared.Refusal.{Refusal}
 use Rattle.refusal.specs.declared.Refusal.the-variants.{NotWellFormed, WrongLength, Clash}
 use Rattle.refusal.specs.declared.Verdict.{Verdict}
 use Rattle.refusal.specs.declared.Verdict.the-variants.{Passed, Refused}
-use Rattle.refusal.specs.declared.Answer.the-variants.{Done, Denied}
+use Rattle.refusal.specs.declared.Answer.the-variants as answer
 use Rattle.refusal.specs.Checks.{firstOf}
 use Rattle.board.specs.Shares.{wrongLength}
 use Rattle.order.specs.declared.Order.{Order}
@@ -36,12 +36,12 @@ stepChecks bus array security word = entryChecks bus array security ++ eventChec
 
 -- a refused step returns the state it was given, and leaves both stores
 abbrev pub refused : Refusal → Bus → List ℕ → List ℕ → Stepped × List ℕ × List ℕ
-refused refusal bus array security = (record { bus = bus; answer = Denied refusal }, array, security)
+refused refusal bus array security = (record { bus = bus; answer = answer.Refused refusal }, array, security)
 
 -- what the line made of an event
 abbrev pub done : Event → ℕ → Played × List ℕ × List ℕ → Stepped × List ℕ × List ℕ
 done event count world =
-    (record { bus = record { count = count; chips = world .0 .chips }; answer = Done (lineReply event (world .0 .said)) }, world .1, world .2)
+    (record { bus = record { count = count; chips = world .0 .chips }; answer = answer.Done (lineReply event (world .0 .said)) }, world .1, world .2)
 
 unfoldable pub played : Order → Bus → List ℕ → List ℕ → Stepped × List ℕ × List ℕ
 played order bus array security = done (eventOf order) (bus .count) (play order (bus .count) (bus .chips) array security)

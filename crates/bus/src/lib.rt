@@ -106,7 +106,7 @@ impl Bus {
         match verdict {
             Verdict::Refused(refusal) => Stepped {
                 bus: self,
-                answer: Answer::Denied(refusal),
+                answer: Answer::Refused(refusal),
             },
             Verdict::Passed => event(self, array, security, word),
         }
@@ -213,7 +213,7 @@ fn event(bus: Bus, array: &mut [u8], security: &mut [u8], word: u16) -> Stepped
     match verdict {
         Verdict::Refused(refusal) => Stepped {
             bus,
-            answer: Answer::Denied(refusal),
+            answer: Answer::Refused(refusal),
         },
         Verdict::Passed => played(order_of(word), bus, array, security),
     }

@@ -72,25 +72,25 @@ pub fn play(
     let mut next = chips;
     let mut said = Said::Nothing;
     let mut at: usize = 0;
-    let mut sat: usize = 0;
+    let mut from: usize = 0;
     let mut i: usize = 0;
     while i < n {
         let place = places[i];
         let figures = geometry_of(place.part);
         let end = least(at + figures.array as usize, array.len());
-        let send = least(sat + figures.security as usize, security.len());
+        let to = least(from + figures.security as usize, security.len());
         let chip = next[i];
         let control = chip.control;
         let phase = control.phase;
         if and(reaches(order, i), hears(event, phase)) {
-            let stepped = chip.step(&mut array[at..end], &mut security[sat..send], event);
+            let stepped = chip.step(&mut array[at..end], &mut security[from..to], event);
             let after = stepped.chip;
             let more = stepped.said;
             next[i] = after;
             said = heard(said, more);
         }
         at = end;
-        sat = send;
+        from = to;
         i += 1;
     }
     Played { chips: next, said }

@@ -6,9 +6,7 @@ use mathlib.Core.Logic.{_↔_}
 use mathlib.Core.Path.{_≡_, refl}
 use Rattle.refusal.specs.declared.Verdict.{Verdict}
 use Rattle.refusal.specs.declared.Verdict.the-variants.{Passed, Refused}
-use Rattle.refusal.specs.declared.Answer.{Answer}
-use Rattle.refusal.specs.declared.Answer.the-variants.{Done, Denied}
-use Rattle.refusal.specs.Refusal.{numberOf, statusOf}
+use Rattle.refusal.specs.Refusal.{statusOf, statusIn}
 use Rattle.refusal.specs.Checks.{firstOf}
 use Rattle.refusal.proofs.Checks.{Checks, Given, NoneHolds, given-exactly-when, passed-exactly-when}
 use Rattle.board.specs.declared.Place.{Place}
@@ -16,12 +14,6 @@ use Rattle.bus.specs.declared.Bus.{Bus}
 use Rattle.bus.specs.Setup.{setUpChecks, setUpBy, setUp}
 use Rattle.bus.specs.Step.{stepChecks, played, stepBy, step}
 use Rattle.bus.specs.Run.{runChecks, runBy, run}
-use Rattle.pages.specs.Page.{pageChecks, pageVerdict}
-
--- the status of an answer: 00 is done
-abbrev pub statusIn : Answer → ℕ
-statusIn (Done reply) = 0
-statusIn (Denied refusal) = numberOf refusal
 
 module _ (count : ℕ) (places : List Place) (array security : List ℕ) where
   abbrev atSetUp : Checks
@@ -79,12 +71,3 @@ module _ (bus : Bus) (array security events answers : List ℕ) where
 
   pub run-passes-exactly-when : (statusOf (run bus array security events answers .0) ≡ 0) ↔ NoneHolds (runChecks bus array security events answers)
   run-passes-exactly-when = rw run-says (passed-exactly-when atRun)
-
-module _ (bus : Bus) (array security : List ℕ) (chip store page : ℕ) where
-  pub page-exactly-when : (n : ℕ) → 0 < n → (statusOf (pageVerdict bus array security chip store page) ≡ n) ↔ Given (pageChecks bus array security chip store page) n
-  unfolding pageVerdict
-  page-exactly-when n some = given-exactly-when (pageChecks bus array security chip store page) refl n some
-
-  pub page-passes-exactly-when : (statusOf (pageVerdict bus array security chip store page) ≡ 0) ↔ NoneHolds (pageChecks bus array security chip store page)
-  unfolding pageVerdict
-  page-passes-exactly-when = passed-exactly-when (pageChecks bus array security chip store page)

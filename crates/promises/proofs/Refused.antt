@@ -10,7 +10,7 @@ use Rattle.refusal.specs.declared.Refusal.{Refusal}
 use Rattle.refusal.specs.declared.Verdict.{Verdict}
 use Rattle.refusal.specs.declared.Verdict.the-variants.{Passed, Refused}
 use Rattle.refusal.specs.declared.Answer.{Answer}
-use Rattle.refusal.specs.declared.Answer.the-variants.{Done, Denied}
+use Rattle.refusal.specs.declared.Answer.the-variants as answer
 use Rattle.refusal.specs.Refusal.{numberOf}
 use Rattle.refusal.specs.Checks.{firstOf, isPassed}
 use Rattle.board.specs.declared.Place.{Place}
@@ -20,8 +20,8 @@ use Rattle.bus.specs.Step.{eventChecks, stepChecks, refused, played, stepBy, ev
 use Rattle.bus.specs.Run.{runChecks, Tape, noted, eventAt, runBy, run}
 
 abbrev isDone : Answer → Bool
-isDone (Done reply) = true
-isDone (Denied refusal) = false
+isDone (answer.Done reply) = true
+isDone (answer.Refused refusal) = false
 
 pub refused-set-up-is-empty : (count : ℕ) (places : List Place) (array security : List ℕ) (refusal : Refusal)
     → setUp count places array security .verdict ≡ Refused refusal
@@ -35,16 +35,16 @@ refused-set-up-is-empty count places array security refusal = go (firstOf (setUp
 
 module _ (bus : Bus) (array security : List ℕ) where
   -- whatever was checked
-  denied-leaves-all : (word : ℕ) (refusal : Refusal) (verdict : Verdict) → stepBy verdict bus array security word .0 .answer ≡ Denied refusal
+  refusal-leaves-all : (word : ℕ) (refusal : Refusal) (verdict : Verdict) → stepBy verdict bus array security word .0 .answer ≡ answer.Refused refusal
       → stepBy verdict bus array security word ≡ refused refusal bus array security
   unfolding played
-  denied-leaves-all word refusal Passed is = absurd (true≢false (ap isDone is))
-  denied-leaves-all word refusal (Refused other) is = ap (λ (answer : Answer). (record { bus = bus; answer = answer }, array, security)) is
+  refusal-leaves-all word refusal Passed is = absurd (true≢false (ap isDone is))
+  refusal-leaves-all word refusal (Refused other) is = ap (λ (answer : Answer). (record { bus = bus; answer = answer }, array, security)) is
 
-  pub refused-step-leaves-all : (word : ℕ) (refusal : Refusal) → step bus array security word .0 .answer ≡ Denied refusal
-      → step bus array security word ≡ (record { bus = bus; answer = Denied refusal }, array, security)
+  pub refused-step-leaves-all : (word : ℕ) (refusal : Refusal) → step bus array security word .0 .answer ≡ answer.Refused refusal
+      → step bus array security word ≡ (record { bus = bus; answer = answer.Refused refusal }, array, security)
   unfolding step
-  refused-step-leaves-all word refusal = denied-leaves-all word refusal (firstOf (stepChecks bus array security word))
+  refused-step-leaves-all word refusal = refusal-leaves-all word refusal (firstOf (stepChecks bus array security word))
 
   pub refused-run-leaves-all : (events answers : List ℕ) (refusal : Refusal) → run bus array security events answers .0 ≡ Refused refusal
       → run bus array security events answers ≡ (Refused refusal, (bus, array, security, answers))
@@ -57,9 +57,9 @@ module _ (bus : Bus) (array security : List ℕ) where
 
 -- in a run, a refused event leaves all but its place in the answers
 pub refused-event-leaves-all-but-its-answer : (events : List ℕ) (i : ℕ) (tape : Tape) (refusal : Refusal)
-    → event (tape .0) (tape .1) (tape .2) (getD events i 0) .0 .answer ≡ Denied refusal
+    → event (tape .0) (tape .1) (tape .2) (getD events i 0) .0 .answer ≡ answer.Refused refusal
     → eventAt events i tape ≡ (tape .0, tape .1, tape .2, set (tape .3) i (wordOf (numberOf refusal) 0))
 unfolding event
 refused-event-leaves-all-but-its-answer events i tape refusal is =
     let word = getD events i 0 in
-    ap (noted i (tape .3)) (denied-leaves-all (tape .0) (tape .1) (tape .2) word refusal (firstOf (eventChecks (tape .0) word)) is)
+    ap (noted i (tape .3)) (refusal-leaves-all (tape .0) (tape .1) (tape .2) word refusal (firstOf (eventChecks (tape .0) word)) is)

@@ -7,7 +7,7 @@ use mathlib.Core.Path.{_≡_, ap}
 use lib.ListN.{length}
 use Rattle.refusal.specs.declared.Verdict.{Verdict}
 use Rattle.refusal.specs.declared.Verdict.the-variants.{Passed}
-use Rattle.refusal.specs.declared.Answer.the-variants.{Done}
+use Rattle.refusal.specs.declared.Answer.the-variants as answer
 use Rattle.refusal.specs.Checks.{firstOf}
 use Rattle.order.specs.declared.Order.{Order}
 use Rattle.order.specs.Order.{orderOf, eventOf}
@@ -51,7 +51,7 @@ module _ (bus : Bus) (array security : List ℕ) (word : ℕ) (four : length (bu
   step-leaves-the-rest i past =
       rw plays (the-rest-stays order (bus .count) (bus .chips) array security four (enters .array-fits) (enters .security-fits) i (omega (arith, enters .all-placed)))
 
-  pub step-answers-for-all : after .0 .answer ≡ Done (lineReply (eventOf order) (gathered order (bus .count) (bus .chips) array security))
+  pub step-answers-for-all : after .0 .answer ≡ answer.Done (lineReply (eventOf order) (gathered order (bus .count) (bus .chips) array security))
   unfolding played
   step-answers-for-all =
       rw (plays, answer-is-gathered order (bus .count) (bus .chips) array security four (enters .array-fits) (enters .security-fits))

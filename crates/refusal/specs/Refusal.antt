@@ -7,7 +7,7 @@ use Rattle.refusal.specs.declared.Refusal.the-variants.{WrongCount, Unkn
 use Rattle.refusal.specs.declared.Verdict.{Verdict}
 use Rattle.refusal.specs.declared.Verdict.the-variants.{Passed, Refused}
 use Rattle.refusal.specs.declared.Answer.{Answer}
-use Rattle.refusal.specs.declared.Answer.the-variants.{Done, Denied}
+use Rattle.refusal.specs.declared.Answer.the-variants as answer
 
 abbrev pub numberOf : Refusal → ℕ
 numberOf WrongCount = 1
@@ -26,7 +26,12 @@ abbrev pub statusOf : Verdict → ℕ
 statusOf Passed = 0
 statusOf (Refused refusal) = numberOf refusal
 
+-- and of an answer
+abbrev pub statusIn : Answer → ℕ
+statusIn (answer.Done reply) = 0
+statusIn (answer.Refused refusal) = numberOf refusal
+
 -- an answer is status times 256 plus reply; a refused event has reply 00
 abbrev pub answerWord : Answer → ℕ
-answerWord (Done reply) = wordOf 0 reply
-answerWord (Denied refusal) = wordOf (numberOf refusal) 0
+answerWord (answer.Done reply) = wordOf 0 reply
+answerWord (answer.Refused refusal) = wordOf (numberOf refusal) 0

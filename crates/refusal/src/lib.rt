@@ -34,7 +34,7 @@ pub enum Verdict {
 // The answer to one event: its reply, or why it was refused.
 pub enum Answer {
     Done(u8),
-    Denied(Refusal),
+    Refused(Refusal),
 }
 
 pub fn number_of(refusal: Refusal) -> u8
@@ -79,6 +79,6 @@ pub fn answer_word(answer: Answer) -> u16
 {
     match answer {
         Answer::Done(reply) => base::word::word_of(0, reply),
-        Answer::Denied(refusal) => base::word::word_of(number_of(refusal), 0),
+        Answer::Refused(refusal) => base::word::word_of(number_of(refusal), 0),
     }
 }

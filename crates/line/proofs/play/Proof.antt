@@ -31,18 +31,18 @@ use Rattle.line.proofs.play.Statement.{statement}
 use Rattle.line.proofs.play.Tie as tie
 
 abbrev Inv-loop : tie.InvT-loop
-Inv-loop order count array₀ security₀ event places n next₀ said₀ at₀ sat₀ i₀ array security next said at sat i =
+Inv-loop order count array₀ security₀ event places n next₀ said₀ at₀ from₀ i₀ array security next said at from i =
     (world next said array security ≡ upTo (turnAt order places) i (world next₀ said₀ array₀ security₀))
     × (at ≡ least (arrayStart places i) (length array₀))
-    × (sat ≡ least (securityStart places i) (length security₀))
+    × (from ≡ least (securityStart places i) (length security₀))
     × (at ≤ i * 2 ^ 24)
-    × (sat ≤ i * 2 ^ 24)
+    × (from ≤ i * 2 ^ 24)
     × (length array ≡ length array₀)
     × (length security ≡ length security₀)
     × (i ≤ n)
 
 abbrev μ-loop : tie.MeasureT-loop
-μ-loop order count array₀ security₀ event places n next₀ said₀ at₀ sat₀ i₀ array security next said at sat i =
+μ-loop order count array₀ security₀ event places n next₀ said₀ at₀ from₀ i₀ array security next said at from i =
     n - i
 
 event-of-requires : tie.Need-event-of-requires Inv-loop μ-loop
@@ -61,17 +61,17 @@ array-begins c = c .before .before .before .before .before .before .before .loop
 array-ends : (c : tie.After-least2 Inv-loop μ-loop) → c .before .before .least .result ≡ least (c .before .before .before .before .before .before .before .loop .at + figuresAt (c .before .before .before .before .before .before .before .before .before .places-of .result) (c .before .before .before .before .before .before .before .loop .i) .array) (length (c .before .before .before .before .before .before .before .loop .array))
 array-ends c = c .before .before .least .ensures ∙ ap (λ (g : Geometry). least (c .before .before .before .before .before .before .before .loop .at + g .array) (length (c .before .before .before .before .before .before .before .loop .array))) (c .before .before .before .before .geometry-of .ensures)
 
-security-begins : (c : tie.After-least2 Inv-loop μ-loop) → c .before .before .before .before .before .before .before .loop .sat ≡ least (securityStart (c .before .before .before .before .before .before .before .before .before .places-of .result) (c .before .before .before .before .before .before .before .loop .i)) (length (c .before .before .before .before .before .before .before .loop .security))
+security-begins : (c : tie.After-least2 Inv-loop μ-loop) → c .before .before .before .before .before .before .before .loop .from ≡ least (securityStart (c .before .before .before .before .before .before .before .before .before .places-of .result) (c .before .before .before .before .before .before .before .loop .i)) (length (c .before .before .before .before .before .before .before .loop .security))
 security-begins c = c .before .before .before .before .before .before .before .loop .inv .2 ∙ ap (least (securityStart (c .before .before .before .before .before .before .before .before .before .places-of .result) (c .before .before .before .before .before .before .before .loop .i))) (sym (c .before .before .before .before .before .before .before .loop .inv .6))
 
-security-ends : (c : tie.After-least2 Inv-loop μ-loop) → c .least2 .result ≡ least (c .before .before .before .before .before .before .before .loop .sat + figuresAt (c .before .before .before .before .before .before .before .before .before .places-of .result) (c .before .before .before .before .before .before .before .loop .i) .security) (length (c .before .before .before .before .before .before .before .loop .security))
-security-ends c = c .least2 .ensures ∙ ap (λ (g : Geometry). least (c .before .before .before .before .before .before .before .loop .sat + g .security) (length (c .before .before .before .before .before .before .before .loop .security))) (c .before .before .before .before .geometry-of .ensures)
+security-ends : (c : tie.After-least2 Inv-loop μ-loop) → c .least2 .result ≡ least (c .before .before .before .before .before .before .before .loop .from + figuresAt (c .before .before .before .before .before .before .before .before .before .places-of .result) (c .before .before .before .before .before .before .before .loop .i) .security) (length (c .before .before .before .before .before .before .before .loop .security))
+security-ends c = c .least2 .ensures ∙ ap (λ (g : Geometry). least (c .before .before .before .before .before .before .before .loop .from + g .security) (length (c .before .before .before .before .before .before .before .loop .security))) (c .before .before .before .before .geometry-of .ensures)
 
 -- the shares lie inside their stores
 array-lies : (c : tie.After-least2 Inv-loop μ-loop) → (c .before .before .before .before .before .before .before .loop .at ≤ c .before .before .least .result) × (c .before .before .least .result ≤ length (c .before .before .before .before .before .before .before .loop .array))
 array-lies c = share-lies _ _ _ _ _ (array-begins c) (array-ends c)
 
-security-lies : (c : tie.After-least2 Inv-loop μ-loop) → (c .before .before .before .before .before .before .before .loop .sat ≤ c .least2 .result) × (c .least2 .result ≤ length (c .before .before .before .before .before .before .before .loop .security))
+security-lies : (c : tie.After-least2 Inv-loop μ-loop) → (c .before .before .before .before .before .before .before .loop .from ≤ c .least2 .result) × (c .least2 .result ≤ length (c .before .before .before .before .before .before .before .loop .security))
 security-lies c = share-lies _ _ _ _ _ (security-begins c) (security-ends c)
 
 loop-holds : tie.Need-loop-holds Inv-loop μ-loop
@@ -187,7 +187,7 @@ turned c =
           (q .ensures ∙ ap (step (chipAt (l .next) (l .i)) _ _) (c .before .before .before .before .before .before .before .before .before .before .before .before .before .before .before .before .event-of .ensures))
           (w .13 ∙ w .9 .ensures),
       ap (λ (xs : List ℕ). length xs) (w .10) ∙ same-len-mid {X = ℕ} (l .at) (s .before .before .least .result - l .at) (l .array) (q .last .1 .0) (q .kept .1 .0),
-      ap (λ (xs : List ℕ). length xs) (w .11) ∙ same-len-mid {X = ℕ} (l .sat) (s .least2 .result - l .sat) (l .security) (q .last .1 .1 .0) (q .kept .1 .1 .0),
+      ap (λ (xs : List ℕ). length xs) (w .11) ∙ same-len-mid {X = ℕ} (l .from) (s .least2 .result - l .from) (l .security) (q .last .1 .1 .0) (q .kept .1 .1 .0),
     ))
     (λ w.
     let order = c .before .before .before .before .before .before .before .before .before .before .before .before .before .before .before .before .before .before .before .args .order in
@@ -216,7 +216,7 @@ loop-again c =
       next-begins (λ (k : ℕ). figuresAt (c .before .before .before .before .before .before .before .before .before .before .before .before .before .before .before .places-of .result) k .array) (l .i) _ _ _ _ (array-begins s) (array-ends s) (l .inv .5),
       next-begins (λ (k : ℕ). figuresAt (c .before .before .before .before .before .before .before .before .before .before .before .before .before .before .before .places-of .result) k .security) (l .i) _ _ _ _ (security-begins s) (security-ends s) (l .inv .6),
       omega (arith, array-ends s, least-most (l .at + figuresAt (c .before .before .before .before .before .before .before .before .before .before .before .before .before .before .before .places-of .result) (l .i) .array) (length (l .array)), sound-of (placeAt (c .before .before .before .before .before .before .before .before .before .before .before .before .before .before .before .places-of .result) (l .i) .part) .array-most, l .inv .3),
-      omega (arith, security-ends s, least-most (l .sat + figuresAt (c .before .before .before .before .before .before .before .before .before .before .before .before .before .before .before .places-of .result) (l .i) .security) (length (l .security)), sound-of (placeAt (c .before .before .before .before .before .before .before .before .before .before .before .before .before .before .before .places-of .result) (l .i) .part) .security-most, l .inv .4),
+      omega (arith, security-ends s, least-most (l .from + figuresAt (c .before .before .before .before .before .before .before .before .before .before .before .before .before .before .before .places-of .result) (l .i) .security) (length (l .security)), sound-of (placeAt (c .before .before .before .before .before .before .before .before .before .before .before .before .before .before .before .places-of .result) (l .i) .part) .security-most, l .inv .4),
       now .1 ∙ l .inv .5,
       now .2 ∙ l .inv .6,
       omega (arith, c .before .before .before .before .before .before .before .before .before .before .before .before .loop-test .taken),

@@ -1,7 +1,12 @@
--- The public contract of this crate leaves one result: any two that it allows are equal.
+-- The public contracts of this crate leave one result: any two that they allow are equal.
 use Rattle.base.proofs.Unique.{Unique, same}
 use Rattle.print.proofs.printed.Kinds as printed-kinds
 use Rattle.print.proofs.printed.Reads as printed-reads
+use Rattle.print.proofs.closing.Kinds as closing-kinds
+use Rattle.print.proofs.closing.Reads as closing-reads
 
 pub printed-unique : Unique printed-kinds.ps printed-kinds.r printed-reads.Post
 printed-unique κs args x y at-x at-y = same
+
+pub closing-unique : Unique closing-kinds.ps closing-kinds.r closing-reads.Post
+closing-unique κs args x y at-x at-y = same

@@ -3,7 +3,7 @@ use Prim.Native.Nat.{ℕ, _+_, _/_, _%_}
 use mathlib.Core.Bool.{cond}
 use mathlib.Core.List.{List, [], _∷_, _++_}
 use lib.Dec.{ltb}
-use Rattle.base.specs.Word.{highOf, lowOf}
+use Rattle.base.specs.Word.{wordOf, highOf, lowOf}
 use Rattle.transcript.specs.Line.{lf}
 
 -- the digit for a value below 16: '0' to '9', 'A' to 'F'
@@ -18,3 +18,11 @@ wordText word = byteText (highOf word) ++ byteText (lowOf word)
 
 abbrev pub printed : ℕ → ℕ → List ℕ
 printed event answer = wordText event ++ (wordText answer ++ (lf ∷ []))
+
+-- what stands for kind and value where no event was read
+abbrev pub noEvent : ℕ
+noEvent = 65535
+
+-- the line that ends a run, FFFF0900 after a malformed line
+abbrev pub closing : ℕ → List ℕ
+closing number = printed noEvent (wordOf number 0)

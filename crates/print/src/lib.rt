@@ -1,13 +1,17 @@
 // An event and its answer as text: kind, value, status, reply as eight digits, then LF (paper, "The transcript").
 use base::word::BYTE;
+use base::word::word_of;
 use transcript::digit;
 use transcript::line::LF;
 ghost use mathlib.Core.Path.{_≡_};
 ghost use Prim.Native.Nat.{_<_};
-ghost use Rattle.print.specs.Print.{digitText, printed};
+ghost use Rattle.print.specs.Print.{digitText, printed, closing};
 
 // How many bytes an event and its answer have as text.
 pub const PRINTED: usize = 9;
+
+// What stands for kind and value where no event was read.
+const NO_EVENT: u16 = 0xFFFF;
 
 // How many digits there are, as wide as a word.
 const DIGITS: u16 = digit::DIGITS as u16;
@@ -45,4 +49,11 @@ pub fn printed(event: u16, answer: u16) -> [u8; PRINTED]
         digit_text(reply % DIGITS),
         LF,
     ]
+}
+
+// The line that ends a run: no event, the number of a refusal, reply 00.
+pub fn closing(number: u8) -> [u8; PRINTED]
+    ensures { λ r. ⌜ r ≡ closing number ⌝ }
+{
+    printed(NO_EVENT, word_of(number, 0))
 }

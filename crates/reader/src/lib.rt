@@ -3,7 +3,7 @@
 use transcript::line::Line;
 use transcript::line::line_at;
 ghost use mathlib.Core.Path.{_≡_};
-ghost use Rattle.transcript.specs.Line.{meaning};
+ghost use Rattle.transcript.specs.Line.{lineAt, meaning};
 ghost use Rattle.reader.specs.Reader.{fromStart, Answered};
 
 pub struct Reader<'a> {
@@ -37,4 +37,12 @@ impl<'a> Reader<'a> {
         self.at = place_after(line, self.at);
         line
     }
+}
+
+// The line at a place of a text, by a reader made for it: for callers that hold a plain slice and a number.
+pub fn line_of(text: &[u8], at: usize) -> Line
+    ensures { λ line. ⌜ line ≡ lineAt (now (text .entry)) at ⌝ }
+{
+    let mut reader = Reader { text, at };
+    reader.next()
 }

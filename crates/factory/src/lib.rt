@@ -1,0 +1,57 @@
+// Chips as they leave the factory: erased, and with a serial number each (paper, "The transcript"; sheets, section 10.1).
+use board::PLACES;
+use board::Place;
+use board::placed;
+use board::shares::security_start;
+ghost use Prim.Native.Nat.{_≤_, _^_};
+ghost use mathlib.Core.Path.{_≡_};
+ghost use lib.ListN.{set};
+ghost use Rattle.factory.specs.Serial.{marked, serialByte, serials};
+
+// A byte of an erased memory.
+pub const ERASED: u8 = 0xFF;
+
+// The bytes of a serial number.
+const SERIAL: usize = 16;
+
+// Every byte of chip k's serial number is this and k.
+const FIRST_SERIAL: u8 = 0x10;
+
+// Past the store there is nothing to store to.
+fn put(byte: u8, at: usize, security: &mut [u8])
+    ensures { λ _. ⌜ now (security .exit) ≡ set (now (security .entry)) at byte ⌝ }
+{
+    if at < security.len() {
+        security[at] = byte;
+    }
+}
+
+fn mark(byte: u8, at: usize, security: &mut [u8])
+    requires { ⌜ at ≤ 2 ^ 32 ⌝ }
+    ensures { λ _. ⌜ now (security .exit) ≡ marked byte at (now (security .entry)) ⌝ }
+{
+    let mut i: usize = 0;
+    while i < SERIAL {
+        put(byte, at + i, security);
+        i += 1;
+    }
+}
+
+fn serial_byte(chip: usize) -> u8
+    requires { ⌜ chip ≤ 4 ⌝ }
+    ensures { λ r. ⌜ r ≡ serialByte chip ⌝ }
+{
+    FIRST_SERIAL + chip as u8
+}
+
+// The serial number of each chip stands at the start of its share; all else stays.
+pub fn mark_serials(count: usize, places: [Place; PLACES], security: &mut [u8])
+    ensures { λ _. ⌜ now (security .exit) ≡ serials count places (now (security .entry)) ⌝ }
+{
+    let n = placed(count);
+    let mut k: usize = 0;
+    while k < n {
+        mark(serial_byte(k), security_start(k, places), security);
+        k += 1;
+    }
+}

@@ -1,0 +1,22 @@
+-- Every public contract of this crate leaves one outcome: any two that it allows are equal.
+use Rattle.base.proofs.Unique.{Unique, same}
+use Rattle.placing.proofs.place_named.Kinds as place-named-kinds
+use Rattle.placing.proofs.place_named.Reads as place-named-reads
+use Rattle.placing.proofs.asked.Asked.bare.Kinds as bare-kinds
+use Rattle.placing.proofs.asked.Asked.bare.Reads as bare-reads
+use Rattle.placing.proofs.asked.Asked.with_chip.Kinds as with-chip-kinds
+use Rattle.placing.proofs.asked.Asked.with_chip.Reads as with-chip-reads
+use Rattle.placing.proofs.asked.Asked.of_paper.Kinds as of-paper-kinds
+use Rattle.placing.proofs.asked.Asked.of_paper.Reads as of-paper-reads
+
+pub place-named-unique : Unique place-named-kinds.ps place-named-kinds.r place-named-reads.Post
+place-named-unique κs args x y at-x at-y = same
+
+pub bare-unique : Unique bare-kinds.ps bare-kinds.r bare-reads.Post
+bare-unique κs args x y at-x at-y = same
+
+pub with-chip-unique : Unique with-chip-kinds.ps with-chip-kinds.r with-chip-reads.Post
+with-chip-unique κs args x y at-x at-y = same
+
+pub of-paper-unique : Unique of-paper-kinds.ps of-paper-kinds.r of-paper-reads.Post
+of-paper-unique κs args x y at-x at-y = same

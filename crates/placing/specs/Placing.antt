@@ -1,0 +1,29 @@
+-- A word that names a place on a board: the part's digit, a colon, the strap's digit. Digits are the transcript's.
+use Prim.Native.Nat.{ℕ}
+use mathlib.Core.Bool.{Bool, cond, _&&_}
+use mathlib.Core.List.{List, [], _∷_}
+use lib.Dec.{eqb}
+use lib.ListN.{length, getD}
+use Rattle.board.specs.declared.Place.{Place}
+use Rattle.transcript.specs.Digit.{digitOf, isDigit}
+use Rattle.placing.specs.declared.Placing.{Placing}
+use Rattle.placing.specs.declared.Placing.the-variants.{Named, Unknown}
+
+abbrev pub colon : ℕ
+colon = 58
+
+abbrev pub isPlace : ℕ → ℕ → ℕ → Bool
+isPlace part between strap = isDigit part && eqb between colon && isDigit strap
+
+abbrev pub placeOf : ℕ → ℕ → Place
+placeOf part strap = record { part = digitOf part; strap = digitOf strap }
+
+-- three bytes that are a place; a word of another form names none
+abbrev pub placeNamed : List ℕ → Placing
+placeNamed word =
+    cond (eqb (length word) 3 && isPlace (getD word 0 0) (getD word 1 0) (getD word 2 0)) (Named (placeOf (getD word 0 0) (getD word 2 0))) Unknown
+
+-- the places that a word stands for
+abbrev pub placesIn : Placing → List Place
+placesIn (Named place) = place ∷ []
+placesIn Unknown = []

@@ -11,6 +11,11 @@ ghost use Rattle.factory.specs.Serial.{marked, serialByte, serials};
 // A byte of an erased memory.
 pub const ERASED: u8 = 0xFF;
 
+// Four arrays, and four security registers, of the largest part.
+pub const ARRAY_MOST: usize = 524_288;
+
+pub const SECURITY_MOST: usize = 2_048;
+
 // The bytes of a serial number.
 const SERIAL: usize = 16;
 

@@ -1,2 +1,3 @@
+pub mod Lends
 pub mod Locals
 pub mod Unique

@@ -99,7 +99,7 @@ module _ {M : Type 1} {𝓤 : URA M} {H : Heap 𝓤} {A : Atoms 𝓤} (W : Given
       -- [the locals: _0 at 0, _1 at 2, …, _10 at 20; the bus's cell; …]
       assigns ! (of-opd ! (load ! (from ! (fld ! refl (stop !))) (look-in ! 10 (sub ! 0 refl (whole !))))) (from ! (hop ! (look ! 2 refl) (stop !))) (store ! 22 refl u-typed) $
       assigns ! (of-opd ! (load ! (from ! (fld ! refl (stop !))) (look-in ! 10 (sub ! 1 refl (whole !))))) (from ! (stop !)) (init ! 0 refl v-typed) $
-      returns ! (look ! 0 refl) $ freed W ((σ, l₀, v) ∷ locals) (by ! left)
+      returns ! (look ! 0 refl) $ freed W ((σ, l₀, v) ∷ locals) [] (by ! left)
 
 module _ {M : Type 1} (𝓤 : URA M) (H : Heap 𝓤) (A : Atoms 𝓤) (W : Given 𝓤 H A) (mem : Memory → SProp 𝓤) (run : Routine → Fun 𝓤) where
   abbrev ByValue : Contract 𝓤

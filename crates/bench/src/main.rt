@@ -1,0 +1,83 @@
+// The bench program: a transcript on standard input, answers on standard output (paper, "The transcript"). Words on the command line
+// name another board than the paper's. One bus state is held in `hold`, lent to each block and moved on where it stands.
+mod block;
+mod command;
+
+use block::next_block;
+use block::read_block;
+use board::PLACES;
+use board::Place;
+use board::shares::array_start;
+use board::shares::security_start;
+use bus::Bus;
+use command::board_asked;
+use conversation::converse;
+use factory::ARRAY_MOST;
+use factory::ERASED;
+use factory::SECURITY_MOST;
+use factory::mark_serials;
+use placing::asked::Asked;
+use refusal::Verdict;
+use refusal::number_of;
+ghost use Prim.Native.Nat.{_≤_};
+
+// A block of text, and room for the answers to its lines and for the line that ends a run.
+const TAPE: usize = 20_480;
+
+const SAID: usize = 36_873;
+
+// The state stands here from the first block to the last.
+fn hold(bus: Bus, array: &mut [u8], security: &mut [u8], tape: &mut [u8], said: &mut [u8]) {
+    let mut held = bus;
+    let mut block = read_block(tape, 0, u64::MAX);
+    while block.more {
+        let heard = converse(&mut held, array, security, tape, block.filled, said);
+        block = next_block(block, heard, tape, said);
+    }
+}
+
+// Sets the board up in memories of its size, and plays what comes.
+fn play(count: usize, places: [Place; PLACES], array: &mut [u8], security: &mut [u8]) {
+    mark_serials(count, places, security);
+    let set_up = Bus::set_up(count, places, array, security);
+    let verdict = set_up.verdict;
+    match verdict {
+        Verdict::Refused(refusal) => block::close(number_of(refusal)),
+        Verdict::Passed => {
+            let mut tape = [0u8; TAPE];
+            let mut said = [0u8; SAID];
+            hold(set_up.bus, array, security, &mut tape, &mut said);
+        }
+    }
+}
+
+// A board asks for no more than there is.
+fn part_of(asked: usize, most: usize) -> usize
+    ensures { λ r. ⌜ r ≤ most ⌝ }
+{
+    if asked <= most { asked } else { most }
+}
+
+fn fit(asked: Asked, array: &mut [u8], security: &mut [u8]) {
+    let count = asked.count;
+    let places = asked.places;
+    let array_end = part_of(array_start(count, places), array.len());
+    let security_end = part_of(security_start(count, places), security.len());
+    play(
+        count,
+        places,
+        &mut array[0..array_end],
+        &mut security[0..security_end],
+    );
+}
+
+fn main() {
+    let words = board_asked();
+    if !words.known {
+        command::say_expected();
+        return;
+    }
+    let mut array = [ERASED; ARRAY_MOST];
+    let mut security = [ERASED; SECURITY_MOST];
+    fit(words.asked, &mut array, &mut security);
+}

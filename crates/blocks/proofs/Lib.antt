@@ -1,0 +1,5 @@
+pub mod Answered
+pub mod Converse
+pub mod Cut
+pub mod Texts
+pub mod Turns

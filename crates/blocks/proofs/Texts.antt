@@ -1,0 +1,146 @@
+-- A text begins with a line, or may become one, or is at fault; more text behind it changes neither a line nor a fault, since five
+-- bytes decide, or a byte before them that is no digit. And what a text is from a place on depends on the rest of it alone.
+use Prim.Native.Nat.{ℕ, zero, suc, _+_, _-_, _≤_, _<_}
+use native.Mathlib.Decide.{decLe}
+use native.Mathlib.Nat.{zero-add, add-zero}
+use native.Mathlib.Omega.{arith}
+use mathlib.Core.Bool.{Bool, true, false, _&&_, false≢true}
+use mathlib.Core.List.{List, _++_}
+use mathlib.Core.Path.{_≡_, _∙_, refl, sym, ap}
+use lib.Dec.{leb, ltb}
+use lib.ListN.{length, getD, drop, length-append, length-drop, List·getD-append}
+use lib.Seq.{getD-drop}
+use borrow.Author.Tests.{le-leb, leb-true, lt-ltb, ltb-true}
+use Rattle.base.specs.Fold.{allBelow}
+use Rattle.transcript.specs.Digit.{isDigit}
+use Rattle.transcript.specs.Line.{isLine, eventAt}
+use Rattle.conversation.specs.Talk.{unfinished}
+use Rattle.base.proofs.Fold.{and-left, and-right, and-both, all-each, all-at}
+
+-- two tests of which each gives the other
+both-ways : (a b : Bool) → (a ≡ true → b ≡ true) → (b ≡ true → a ≡ true) → a ≡ b
+both-ways true true there back = refl
+both-ways true false there back = sym (there refl)
+both-ways false true there back = back refl
+both-ways false false there back = refl
+
+none-of : (a : Bool) → (a ≡ true → ⊥) → a ≡ false
+none-of true never = absurd (never refl)
+none-of false never = refl
+
+abbrev AllFour : Bool → Bool → Bool → Bool → Type 0
+AllFour a b c d = (a ≡ true) × (b ≡ true) × (c ≡ true) × (d ≡ true)
+
+first-four : (a b c d e : Bool) → (a && b && c && d && e) ≡ true → AllFour a b c d
+first-four false b c d e all = absurd (false≢true all)
+first-four true false c d e all = absurd (false≢true all)
+first-four true true false d e all = absurd (false≢true all)
+first-four true true true false e all = absurd (false≢true all)
+first-four true true true true e all = (refl, refl, refl, refl)
+
+-- ---- what the tests say
+module _ (text : List ℕ) where
+  abbrev digitAt : ℕ → Bool
+  digitAt i = isDigit (getD text i 0)
+
+  pub line-long : isLine text 0 ≡ true → 5 ≤ length text
+  line-long line = leb-true 5 (length text) (and-left (leb 5 (length text)) _ line)
+
+  unfinished-short : unfinished text 0 ≡ true → length text < 5
+  unfinished-short part =
+      let short : length text - 0 < 5 = ltb-true (length text - 0) 5 (and-left (ltb (length text - 0) 5) _ part) in
+      omega arith
+
+  unfinished-digits : unfinished text 0 ≡ true → (i : ℕ) → i < length text → digitAt i ≡ true
+  unfinished-digits part i below =
+      rw zero-add at (all-at (λ (k : ℕ). isDigit (getD text (0 + k) 0)) (length text - 0) i (and-right (ltb (length text - 0) 5) _ part) (omega arith))
+
+  pub short-digits : length text < 5 → ((i : ℕ) → i < length text → digitAt i ≡ true) → unfinished text 0 ≡ true
+  short-digits short each =
+      and-both (ltb (length text - 0) 5) _ (lt-ltb (length text - 0) 5 (omega arith))
+      (all-each (λ (k : ℕ). isDigit (getD text (0 + k) 0)) (length text - 0) (λ i below. rw zero-add (each i (omega arith))))
+
+  -- a line is four digits first
+  line-digits : isLine text 0 ≡ true → (i : ℕ) → i < 4 → digitAt i ≡ true
+  line-digits line i below = digit i below (first-four (digitAt 0) (digitAt 1) (digitAt 2) (digitAt 3) _ (and-right (leb 5 (length text)) _ line))
+    where
+      digit : (i : ℕ) → i < 4 → AllFour (digitAt 0) (digitAt 1) (digitAt 2) (digitAt 3) → digitAt i ≡ true
+      digit zero below all = all .0
+      digit (suc zero) below all = all .1
+      digit (suc (suc zero)) below all = all .2
+      digit (suc (suc (suc zero))) below all = all .3
+      digit (suc (suc (suc (suc i)))) below all = absurd (omega arith)
+
+-- ---- more text behind
+module _ (text more : List ℕ) where
+  byte-stays : (i : ℕ) → i < length text → getD (text ++ more) i 0 ≡ getD text i 0
+  byte-stays i below = List·getD-append text more 0 i below
+
+  -- five bytes decide
+  whole-stays : 5 ≤ length text → isLine (text ++ more) 0 ≡ isLine text 0
+  whole-stays long =
+      rw (
+        le-leb 5 (length text) long,
+        le-leb 5 (length (text ++ more)) (omega (arith, length-append text more)),
+        byte-stays 0 (omega arith),
+        byte-stays 1 (omega arith),
+        byte-stays 2 (omega arith),
+        byte-stays 3 (omega arith),
+        byte-stays 4 (omega arith),
+      ) refl
+
+  pub line-stays : isLine text 0 ≡ true → isLine (text ++ more) 0 ≡ true
+  line-stays line = whole-stays (line-long text line) ∙ line
+
+  pub event-stays : isLine text 0 ≡ true → eventAt (text ++ more) 0 ≡ eventAt text 0
+  event-stays line =
+      let long = line-long text line in
+      rw (byte-stays 0 (omega arith), byte-stays 1 (omega arith), byte-stays 2 (omega arith), byte-stays 3 (omega arith)) refl
+
+  -- the start of what may become a line may become a line
+  unfinished-front : unfinished (text ++ more) 0 ≡ true → unfinished text 0 ≡ true
+  unfinished-front part =
+      let short = unfinished-short (text ++ more) part in
+      short-digits text (omega (arith, length-append text more))
+      (λ i below. rw (byte-stays i below) at (unfinished-digits (text ++ more) part i (omega (arith, length-append text more))))
+
+  -- and so may the start of a line
+  line-front : isLine text 0 ≡ false → isLine (text ++ more) 0 ≡ true → unfinished text 0 ≡ true
+  line-front none line = go (decLe 5 (length text))
+    where
+      go : Dec (5 ≤ length text) → unfinished text 0 ≡ true
+      go (yes long) = absurd (false≢true (sym none ∙ sym (whole-stays long) ∙ line))
+      go (no short) = short-digits text (omega arith) (λ i below. rw (byte-stays i below) at (line-digits (text ++ more) line i (omega arith)))
+
+  pub fault-stays : isLine text 0 ≡ false → unfinished text 0 ≡ false → (isLine (text ++ more) 0 ≡ false) × (unfinished (text ++ more) 0 ≡ false)
+  fault-stays none never = (
+    none-of (isLine (text ++ more) 0) (λ line. false≢true (sym never ∙ line-front none line)),
+    none-of (unfinished (text ++ more) 0) (λ part. false≢true (sym never ∙ unfinished-front part)),
+  )
+
+-- ---- from a place on
+module _ (text : List ℕ) (at : ℕ) where
+  byte-from : getD (drop at text) 0 0 ≡ getD text at 0
+  byte-from = getD-drop at text 0 0 ∙ ap (λ (k : ℕ). getD text k 0) (add-zero at)
+
+  pub event-from : eventAt (drop at text) 0 ≡ eventAt text at
+  event-from = rw (byte-from, getD-drop at text 1 0, getD-drop at text 2 0, getD-drop at text 3 0) refl
+
+  fits-from : leb 5 (length (drop at text)) ≡ leb (at + 5) (length text)
+  fits-from =
+      let left = length-drop at text in
+      both-ways (leb 5 (length (drop at text))) (leb (at + 5) (length text))
+      (λ long. le-leb (at + 5) (length text) (omega (arith, leb-true 5 (length (drop at text)) long, left)))
+      (λ long. le-leb 5 (length (drop at text)) (omega (arith, leb-true (at + 5) (length text) long, left)))
+
+  pub line-from : isLine (drop at text) 0 ≡ isLine text at
+  line-from = rw (fits-from, byte-from, getD-drop at text 1 0, getD-drop at text 2 0, getD-drop at text 3 0, getD-drop at text 4 0) refl
+
+  each-from : (i : ℕ) → getD (drop at text) (0 + i) 0 ≡ getD text (at + i) 0
+  each-from i = rw zero-add (getD-drop at text i 0)
+
+  pub unfinished-from : unfinished (drop at text) 0 ≡ unfinished text at
+  unfinished-from =
+      let left : length (drop at text) - 0 ≡ length text - at = omega (arith, length-drop at text) in
+      ap (λ (n : ℕ). ltb n 5 && allBelow (λ (i : ℕ). isDigit (getD (drop at text) (0 + i) 0)) n) left
+      ∙ ap (λ (test : ℕ → Bool). ltb (length text - at) 5 && allBelow test (length text - at)) (λ k i. isDigit (each-from i k))

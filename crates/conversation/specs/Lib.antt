@@ -1,0 +1,4 @@
+pub mod Talk
+pub mod Turn
+pub mod Tape
+pub mod Whole

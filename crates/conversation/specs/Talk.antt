@@ -1,0 +1,81 @@
+-- A conversation over a transcript: each line is answered in its turn, by the step of a single event; a malformed line ends the run
+-- (paper, "The transcript").
+use Prim.Native.Nat.{ℕ, _+_, _-_, _/_}
+use mathlib.Core.Bool.{Bool, true, false, cond, _&&_}
+use mathlib.Core.List.{List, [], _++_}
+use lib.Dec.{ltb}
+use lib.ListN.{length, getD, drop}
+use Rattle.base.specs.Fold.{upTo, allBelow}
+use Rattle.refusal.specs.Refusal.{answerWord}
+use Rattle.bus.specs.declared.Bus.{Bus}
+use Rattle.bus.specs.declared.Stepped.{Stepped}
+use Rattle.bus.specs.Step.{step}
+use Rattle.transcript.specs.declared.line.Line.{Line}
+use Rattle.transcript.specs.declared.line.Line.the-variants.{Event, Malformed, End}
+use Rattle.transcript.specs.Digit.{isDigit}
+use Rattle.transcript.specs.Line.{lineAt, meaning}
+use Rattle.print.specs.Print.{printed, closing}
+use Rattle.conversation.specs.declared.Heard.{Heard}
+
+-- the bus and both stores, the answers so far, the place in the text, and whether a malformed line has ended the run
+pub record Talk : Type 0 where
+  pub bus : Bus
+  pub array : List ℕ
+  pub security : List ℕ
+  pub said : List ℕ
+  pub at : ℕ
+  pub over : Bool
+
+-- nothing is read yet, and nothing said
+abbrev pub opened : Bus → List ℕ → List ℕ → Talk
+opened bus array security = record { bus = bus; array = array; security = security; said = []; at = 0; over = false }
+
+-- a step's answer is said, and the place is after its line
+abbrev pub answered : ℕ → ℕ → Talk → Stepped × List ℕ × List ℕ → Talk
+answered event next talk world =
+    record { bus = world .0 .bus; array = world .1; security = world .2; said = talk .said ++ printed event (answerWord (world .0 .answer)); at = next; over = talk .over }
+
+-- what is left from a place on may still become a line: it is shorter than one, and all of it digits
+abbrev pub unfinished : List ℕ → ℕ → Bool
+unfinished text at = ltb (length text - at) 5 && allBelow (λ (i : ℕ). isDigit (getD text (at + i) 0)) (length text - at)
+
+-- FFFF0900, and nothing after it is heard
+abbrev pub ended : List ℕ → Talk → Talk
+ended text talk =
+    record { bus = talk .bus; array = talk .array; security = talk .security; said = talk .said ++ closing (meaning Malformed (talk .at) .status); at = length text; over = true }
+
+abbrev pub byLine : Line → List ℕ → Talk → Talk
+byLine (Event event next) text talk = answered event next talk (step (talk .bus) (talk .array) (talk .security) event)
+byLine Malformed text talk = cond (unfinished text (talk .at)) talk (ended text talk)
+byLine End text talk = talk
+
+-- what the reader says at the place is answered
+unfoldable pub hearLine : List ℕ → Talk → Talk
+hearLine text talk = byLine (lineAt text (talk .at)) text talk
+
+-- at most n lines are answered, one after the other
+abbrev pub hear : List ℕ → ℕ → Talk → Talk
+hear text n talk = upTo (λ (i : ℕ). hearLine text) n talk
+
+-- how many answers a buffer has room for
+abbrev pub roomIn : List ℕ → ℕ
+roomIn buffer = length buffer / 9
+
+-- what a conversation tells: how much of the text is used, how much was said, whether it is over
+abbrev pub heardOf : Talk → Heard
+heardOf talk = record { used = talk .at; written = length (talk .said); over = talk .over }
+
+-- the answers stand at the start of the buffer, and the rest of it stays
+abbrev pub laidOn : List ℕ → List ℕ → List ℕ
+laidOn buffer said = said ++ drop (length said) buffer
+
+-- all that a conversation leaves: what it tells, the bus, both stores, the buffer
+abbrev pub Left : Type 0
+Left = Heard × Bus × List ℕ × List ℕ × List ℕ
+
+abbrev pub leftBy : List ℕ → Talk → Left
+leftBy buffer talk = (heardOf talk, talk .bus, talk .array, talk .security, laidOn buffer (talk .said))
+
+-- a text is heard as far as the buffer has room for answers
+unfoldable pub converse : List ℕ → Bus → List ℕ → List ℕ → List ℕ → Left
+converse text bus array security buffer = leftBy buffer (hear text (roomIn buffer) (opened bus array security))

@@ -1,0 +1,57 @@
+// A conversation over a transcript: the lines of a text are answered one after the other by a bus that is lent (paper, "The transcript").
+pub mod tape;
+mod turn;
+
+pub use crate::turn::MALFORMED;
+use crate::turn::finish;
+use crate::turn::first_turn;
+use crate::turn::next_turn;
+use crate::turn::told;
+use bus::Bus;
+use lent::play;
+ghost use mathlib.Core.Path.{_≡_};
+ghost use Rattle.conversation.specs.Talk.{converse};
+ghost use Rattle.conversation.specs.Tape.{textOn};
+ghost use Rattle.conversation.specs.Whole.{answerAll};
+
+// How much of a text was used, how much was said, and whether a malformed line has ended the run.
+pub struct Heard {
+    pub used: usize,
+    pub written: usize,
+    pub over: bool,
+}
+
+// Answers the text on a tape, as far as `said` has room. A last line that is unfinished is left, unless it cannot become one.
+pub fn converse(
+    bus: &mut Bus,
+    array: &mut [u8],
+    security: &mut [u8],
+    tape: &[u8],
+    filled: usize,
+    said: &mut [u8],
+) -> Heard
+    ensures { λ heard. ⌜ (heard, now (bus .exit), now (array .exit), now (security .exit), now (said .exit)) ≡ converse (textOn (now (tape .entry)) filled) (now (bus .entry)) (now (array .entry)) (now (security .entry)) (now (said .entry)) ⌝ }
+{
+    let mut turn = first_turn(tape, filled, said);
+    while turn.more {
+        let answer = play(bus, array, security, turn.event);
+        turn = next_turn(turn, answer, tape, filled, said);
+    }
+    told(turn)
+}
+
+// A whole transcript, on a bus that serves for nothing else.
+pub fn answer_all(
+    bus: Bus,
+    array: &mut [u8],
+    security: &mut [u8],
+    tape: &[u8],
+    filled: usize,
+    said: &mut [u8],
+) -> Heard
+    ensures { λ heard. ⌜ (heard, now (array .exit), now (security .exit), now (said .exit)) ≡ answerAll (textOn (now (tape .entry)) filled) bus (now (array .entry)) (now (security .entry)) (now (said .entry)) ⌝ }
+{
+    let mut held = bus;
+    let heard = converse(&mut held, array, security, tape, filled, said);
+    finish(heard, tape, filled, said)
+}

@@ -1,0 +1,108 @@
+//! The line: events in, answers out (paper, "Events and replies").
+
+use crate::board::{self, Place, Refusal};
+use crate::chip::{Chip, Phase, NOTHING};
+
+/// Event kinds.
+pub const START: u8 = 0x01;
+pub const STOP: u8 = 0x02;
+pub const SEND: u8 = 0x03;
+pub const READ: u8 = 0x04;
+pub const WP_LOW: u8 = 0x05;
+pub const WP_HIGH: u8 = 0x06;
+pub const CYCLE_OVER: u8 = 0x07;
+pub const POWER_UP: u8 = 0x08;
+
+/// Values of event 04.
+pub const ACK: u8 = 0x00;
+pub const NACK: u8 = 0x01;
+
+/// Statuses: done, and the refusals that an event can meet.
+pub const DONE: u8 = 0;
+pub const UNKNOWN_KIND: u8 = 6;
+pub const BAD_VALUE: u8 = 7;
+pub const WRONG_DIRECTION: u8 = 8;
+
+/// An event as the transcript writes it.
+#[derive(Debug, Clone, Copy, PartialEq, Eq)]
+pub struct Event {
+    pub kind: u8,
+    pub value: u8,
+}
+
+/// What an event is answered with.
+#[derive(Debug, Clone, Copy, PartialEq, Eq)]
+pub struct Answer {
+    pub status: u8,
+    pub reply: u8,
+}
+
+/// The chips on one line.
+#[derive(Debug)]
+pub struct Bus {
+    chips: Vec<Chip>,
+}
+
+impl Bus {
+    /// Sets up a line of fresh chips, or refuses the board.
+    pub fn set_up(board: &[Place]) -> Result<Bus, Refusal> {
+        let parts = board::check(board)?;
+        let numbered = (0..).zip(parts.into_iter().zip(board));
+        let chips = numbered.map(|(number, (part, at))| Chip::fresh(part, at.strap, number)).collect();
+        Ok(Bus { chips })
+    }
+
+    /// The chips, in order.
+    pub fn chips(&self) -> &[Chip] {
+        &self.chips
+    }
+
+    /// Plays one event.
+    pub fn step(&mut self, event: Event) -> Answer {
+        match self.refusal(event) {
+            DONE => Answer { status: DONE, reply: self.play(event) },
+            status => Answer { status, reply: 0 },
+        }
+    }
+
+    /// The number with which the event is refused: 6, 7, 8 in this order, or DONE.
+    fn refusal(&self, Event { kind, value }: Event) -> u8 {
+        let allowed = match kind {
+            START | STOP | POWER_UP => value == 0,
+            SEND => true,
+            READ => value == ACK || value == NACK,
+            WP_LOW | WP_HIGH | CYCLE_OVER => usize::from(value) < self.chips.len(),
+            _ => return UNKNOWN_KIND,
+        };
+        let against = match kind {
+            SEND => self.chips.iter().any(|chip| matches!(chip.phase(), Phase::Sends(_))),
+            READ => self.chips.iter().any(|chip| matches!(chip.phase(), Phase::Takes(_))),
+            _ => false,
+        };
+        match (allowed, against) {
+            (false, _) => BAD_VALUE,
+            (true, true) => WRONG_DIRECTION,
+            (true, false) => DONE,
+        }
+    }
+
+    /// Plays an event that is not refused; the reply.
+    fn play(&mut self, Event { kind, value }: Event) -> u8 {
+        match kind {
+            START => self.chips.iter_mut().for_each(Chip::start),
+            STOP => self.chips.iter_mut().for_each(Chip::stop),
+            SEND => {
+                // Every chip hears the byte, whoever acknowledges.
+                return self.chips.iter_mut().fold(0, |reply, chip| reply | u8::from(chip.take(value)));
+            }
+            READ => {
+                let mut sent = self.chips.iter_mut().filter_map(|chip| chip.send(value == NACK));
+                return sent.next().unwrap_or(NOTHING);
+            }
+            WP_LOW | WP_HIGH => self.chips[usize::from(value)].set_wp(kind == WP_HIGH),
+            CYCLE_OVER => self.chips[usize::from(value)].cycle_over(),
+            _ => self.chips.iter_mut().for_each(Chip::power_up),
+        }
+        0
+    }
+}

@@ -1,0 +1,172 @@
+//! Random boards and transcripts, biased to what matters. A run is its seed: the same seed, the same run.
+
+use crate::board::{self, Place, Refusal, MOST_CHIPS};
+use crate::part::{Part, CS32_NUMBER, CSM01_NUMBER, LINE_ADDRESSES};
+use crate::rng::Rng;
+use crate::script;
+use crate::transcript::{digit, event_line};
+
+/// Events in a transcript.
+pub const EVENTS: usize = 5_000;
+/// In so many of a hundred runs the board is refused, is the paper's own, or the transcript has a malformed line.
+const REFUSED_PERCENT: usize = 4;
+const PAPERS_BOARD_PERCENT: usize = 5;
+const MALFORMED_PERCENT: usize = 40;
+const EMPTY_PERCENT: usize = 1;
+/// A malformed line comes after so many events at the earliest.
+const EARLIEST_MALFORMED: usize = EVENTS / 2;
+/// In so many of a hundred places on a refused board a digit is any digit.
+const WILD_PERCENT: usize = 25;
+const FEWEST_TO_CLASH: usize = 2;
+const HEXADECIMAL: usize = 16;
+const DIGITS: &[u8] = b"0123456789ABCDEF";
+const LOWER_CASE: &[u8] = b"abcdef";
+/// Bytes next to the digits, and others that a reader may take for something else.
+const ALMOST_DIGITS: &[u8] = b"/:@G`afg Xx\t\0\r\xFF";
+const ALMOST_DIGIT_PERCENT: usize = 70;
+
+/// What one comparison plays.
+pub struct Run {
+    /// The words `PART:STRAP`; none for the paper's board.
+    pub words: Vec<String>,
+    /// The same as a board.
+    pub board: Vec<Place>,
+    /// The transcript, which may end in the middle of a line.
+    pub transcript: Vec<u8>,
+}
+
+/// The run with this seed.
+pub fn run(seed: u64) -> Run {
+    let mut rng = Rng::new(seed);
+    let words = words(&mut rng);
+    let board = board::parse(&words).expect("words of a board");
+    let events = script::events(&mut rng, &board, EVENTS);
+    let mut lines: Vec<Vec<u8>> = events.into_iter().map(|event| event_line(event).into_bytes()).collect();
+    if rng.percent(EMPTY_PERCENT) {
+        lines.clear();
+    } else if rng.percent(MALFORMED_PERCENT) {
+        spoil(&mut rng, &mut lines);
+    }
+    Run { words, board, transcript: lines.concat() }
+}
+
+/// The words of a board: mostly one that set-up takes.
+fn words(rng: &mut Rng) -> Vec<String> {
+    if rng.percent(PAPERS_BOARD_PERCENT) {
+        return Vec::new();
+    }
+    let refused = rng.percent(REFUSED_PERCENT);
+    let wanted = refused.then(|| rng.pick(&[Refusal::Part, Refusal::Strap, Refusal::Clash]));
+    let fewest = if wanted == Some(Refusal::Clash) { FEWEST_TO_CLASH } else { 1 };
+    let count = rng.between(fewest, MOST_CHIPS);
+    loop {
+        let board: Vec<Place> = (0..count).map(|_| place(rng, refused)).collect();
+        if board::check(&board).err() == wanted {
+            return board.iter().map(Place::to_string).collect();
+        }
+    }
+}
+
+/// A part and a strap; `wild`: now and then one that does not exist.
+fn place(rng: &mut Rng, wild: bool) -> Place {
+    let mut digit = |usual: &[u8]| {
+        let any = wild && rng.percent(WILD_PERCENT);
+        if any {
+            rng.below(HEXADECIMAL) as u8
+        } else {
+            rng.pick(usual)
+        }
+    };
+    let part = digit(&[CSM01_NUMBER, CS32_NUMBER]);
+    let straps = Part::numbered(part).map_or(LINE_ADDRESSES, |part| part.straps);
+    Place { part, strap: digit(&Vec::from_iter(0..straps)) }
+}
+
+/// What can be wrong with a line.
+#[derive(Clone, Copy)]
+enum Fault {
+    WrongByte,
+    LowerCase,
+    Short,
+    Long,
+    CarriageReturn,
+    Empty,
+    ExtraByte,
+    NoLineEnd,
+}
+
+const FAULTS: [(usize, Fault); 8] = [
+    (8, Fault::WrongByte),
+    (2, Fault::LowerCase),
+    (2, Fault::Short),
+    (2, Fault::Long),
+    (2, Fault::CarriageReturn),
+    (1, Fault::Empty),
+    (3, Fault::ExtraByte),
+    (4, Fault::NoLineEnd),
+];
+
+/// Makes one late line malformed. Lines after it stay, but after the missing line end there are none.
+fn spoil(rng: &mut Rng, lines: &mut Vec<Vec<u8>>) {
+    let at = rng.between(EARLIEST_MALFORMED, lines.len() - 1);
+    let fault = rng.weighted(&FAULTS);
+    if matches!(fault, Fault::NoLineEnd) {
+        lines.truncate(at + 1);
+    }
+    let line = &mut lines[at];
+    let line_end = line.len() - 1;
+    let place = rng.below(line_end);
+    match fault {
+        Fault::WrongByte => line[rng.below(line_end + 1)] = no_digit(rng),
+        Fault::LowerCase => line[place] = rng.pick(LOWER_CASE),
+        Fault::Short => drop(line.drain(place..line_end)),
+        Fault::Long => line.insert(place, rng.pick(DIGITS)),
+        Fault::CarriageReturn => line.insert(line_end, b'\r'),
+        Fault::Empty => line.insert(0, b'\n'),
+        Fault::ExtraByte => line.insert(rng.below(line_end + 1), no_digit(rng)),
+        Fault::NoLineEnd => line.truncate(place + 1),
+    }
+}
+
+/// Any byte but a digit and LF.
+fn no_digit(rng: &mut Rng) -> u8 {
+    if rng.percent(ALMOST_DIGIT_PERCENT) {
+        return rng.pick(ALMOST_DIGITS);
+    }
+    loop {
+        let byte = rng.byte();
+        if digit(byte).is_none() && byte != b'\n' {
+            return byte;
+        }
+    }
+}
+
+#[cfg(test)]
+mod tests {
+    use super::*;
+    use crate::transcript::events;
+
+    const SEEDS: u64 = 300;
+
+    #[test]
+    fn runs_repeat_and_have_their_length() {
+        let mut whole = 0;
+        for seed in 0..SEEDS {
+            let run = run(seed);
+            assert_eq!(run.transcript, super::run(seed).transcript);
+            whole += u64::from(events(&run.transcript).count() == EVENTS);
+        }
+        assert!(whole * 2 > SEEDS, "{whole}");
+    }
+
+    #[test]
+    fn boards_of_every_size_and_every_refusal_come() {
+        let boards: Vec<_> = (0..SEEDS).map(|seed| run(seed).board).collect();
+        for count in 1..=MOST_CHIPS {
+            assert!(boards.iter().any(|board| board.len() == count));
+        }
+        for refusal in [Refusal::Part, Refusal::Strap, Refusal::Clash] {
+            assert!(boards.iter().any(|board| board::check(board).err() == Some(refusal)));
+        }
+    }
+}

@@ -1,0 +1,86 @@
+//! A model of the bench, written from the paper and the sheets alone, to compare the bench with.
+
+mod board;
+mod bus;
+mod census;
+mod chip;
+mod compare;
+mod generate;
+mod part;
+mod rng;
+mod script;
+mod transcript;
+mod turns;
+
+use std::io::{self, BufReader, BufWriter, Write};
+use std::process::ExitCode;
+
+const USAGE: &str = "usage: model play [PART:STRAP ..] | generate SEED | compare BENCH RUNS [FIRST_SEED] | census RUNS";
+const BAD_ARGUMENTS: u8 = 2;
+
+/// What the command line asks for.
+enum Task {
+    Play(Vec<board::Place>),
+    Generate(u64),
+    Compare { bench: String, runs: u64, first_seed: u64 },
+    Census(u64),
+}
+
+/// Reads the command line; None where it is wrong.
+fn task(words: &[String]) -> Option<Task> {
+    let (command, rest) = words.split_first()?;
+    let number = |word: &String| word.bytes().all(|byte| byte.is_ascii_digit()).then(|| word.parse().ok())?;
+    let runs = |word: &String| number(word).filter(|runs| *runs > 0);
+    Some(match (command.as_str(), rest) {
+        ("play", words) => Task::Play(board::parse(words)?),
+        ("generate", [seed]) => Task::Generate(number(seed)?),
+        ("compare", [bench, count]) => Task::Compare { bench: bench.clone(), runs: runs(count)?, first_seed: 0 },
+        ("compare", [bench, count, seed]) => {
+            Task::Compare { bench: bench.clone(), runs: runs(count)?, first_seed: number(seed)? }
+        }
+        ("census", [count]) => Task::Census(runs(count)?),
+        _ => return None,
+    })
+}
+
+/// Prints a run: the board's words on standard error, the transcript on standard output.
+fn generate(seed: u64) -> io::Result<()> {
+    let run = generate::run(seed);
+    eprintln!("# board: {}", if run.words.is_empty() { "no words".to_string() } else { run.words.join(" ") });
+    io::stdout().write_all(&run.transcript)
+}
+
+/// Answers standard input on standard output.
+fn play(board: &[board::Place]) -> io::Result<()> {
+    let mut output = BufWriter::new(io::stdout().lock());
+    transcript::play(board, BufReader::new(io::stdin().lock()), &mut output)?;
+    output.flush()
+}
+
+fn main() -> ExitCode {
+    let words: Vec<String> = std::env::args().skip(1).collect();
+    let done = match task(&words) {
+        None => {
+            eprintln!("{USAGE}");
+            return ExitCode::from(BAD_ARGUMENTS);
+        }
+        Some(Task::Play(board)) => play(&board),
+        Some(Task::Generate(seed)) => generate(seed),
+        Some(Task::Compare { bench, runs, first_seed }) => {
+            let (passed, failed) = compare::compare(&bench, runs, first_seed);
+            println!("{passed} passed, {failed} failed");
+            return if failed == 0 { ExitCode::SUCCESS } else { ExitCode::FAILURE };
+        }
+        Some(Task::Census(runs)) => {
+            census::census(runs);
+            Ok(())
+        }
+    };
+    match done {
+        Ok(()) => ExitCode::SUCCESS,
+        Err(error) => {
+            eprintln!("model: {error}");
+            ExitCode::FAILURE
+        }
+    }
+}

@@ -1,0 +1,196 @@
+//! The transcript's two formats and the bench program (paper, "The transcript").
+
+use crate::board::Place;
+use crate::bus::{Answer, Bus, Event};
+use std::io::{self, Read, Write};
+
+/// Digits of an event, and the length of its line with the LF.
+const EVENT_DIGITS: usize = 4;
+const LINE_BYTES: usize = EVENT_DIGITS + 1;
+/// Kind and value of the answer that ends a run, and the status of a malformed line (refusal 9).
+const NO_EVENT: Event = Event { kind: 0xFF, value: 0xFF };
+const MALFORMED: u8 = 9;
+const DECIMAL: u8 = 10;
+const HEXADECIMAL: u8 = 16;
+
+/// The value of a digit 0-9 A-F.
+pub fn digit(byte: u8) -> Option<u8> {
+    match byte {
+        b'0'..=b'9' => Some(byte - b'0'),
+        b'A'..=b'F' => Some(byte - b'A' + DECIMAL),
+        _ => None,
+    }
+}
+
+/// The event on a line, which ends with LF.
+fn parse(line: &[u8]) -> Option<Event> {
+    let [a, b, c, d, b'\n'] = *line else { return None };
+    let pair = |high, low| Some(digit(high)? * HEXADECIMAL + digit(low)?);
+    Some(Event { kind: pair(a, b)?, value: pair(c, d)? })
+}
+
+/// The line of an event.
+pub fn event_line(event: Event) -> String {
+    format!("{:02X}{:02X}\n", event.kind, event.value)
+}
+
+/// The line of an answer.
+fn answer_line(event: Event, answer: Answer) -> String {
+    format!("{:02X}{:02X}{:02X}{:02X}\n", event.kind, event.value, answer.status, answer.reply)
+}
+
+/// What is read next: an event, the end, or something malformed. A wrong byte shows in the five that a right
+/// line has, since no right line is longer or shorter.
+enum Next {
+    Event(Event),
+    Malformed,
+    End,
+}
+
+fn next(input: &mut impl Read) -> io::Result<Next> {
+    let mut line = Vec::with_capacity(LINE_BYTES);
+    input.take(LINE_BYTES as u64).read_to_end(&mut line)?;
+    Ok(match parse(&line) {
+        Some(event) => Next::Event(event),
+        None if line.is_empty() => Next::End,
+        None => Next::Malformed,
+    })
+}
+
+/// Behaves as the bench program does: answers a transcript, until it ends or a line is malformed.
+pub fn play(board: &[Place], mut input: impl Read, mut output: impl Write) -> io::Result<()> {
+    let refused = |status| answer_line(NO_EVENT, Answer { status, reply: 0 });
+    let mut bus = match Bus::set_up(board) {
+        Ok(bus) => bus,
+        Err(refusal) => return output.write_all(refused(refusal as u8).as_bytes()),
+    };
+    loop {
+        match next(&mut input)? {
+            Next::Event(event) => output.write_all(answer_line(event, bus.step(event)).as_bytes())?,
+            Next::Malformed => return output.write_all(refused(MALFORMED).as_bytes()),
+            Next::End => return Ok(()),
+        }
+    }
+}
+
+/// The events of a transcript up to its end or its first malformed line.
+pub fn events(transcript: &[u8]) -> impl Iterator<Item = Event> + '_ {
+    transcript.chunks(LINE_BYTES).map_while(parse)
+}
+
+#[cfg(test)]
+mod tests {
+    use super::*;
+    use crate::board;
+
+    /// Plays a transcript on the board with these words; the answers without their line ends.
+    fn answers(words: &str, transcript: &str) -> Vec<String> {
+        let words: Vec<String> = words.split_whitespace().map(String::from).collect();
+        let mut output = Vec::new();
+        play(&board::parse(&words).expect("words"), transcript.as_bytes(), &mut output).expect("no I/O here");
+        String::from_utf8(output).expect("digits").lines().map(String::from).collect()
+    }
+
+    /// Events separated by spaces, one a line; `0300*3` repeats an event.
+    fn lines(events: &str) -> String {
+        let repeated = |word: &str| match word.split_once('*') {
+            Some((event, count)) => format!("{event}\n").repeat(count.parse().expect("a count")),
+            None => format!("{word}\n"),
+        };
+        events.split_whitespace().map(repeated).collect()
+    }
+
+    /// The bytes that the answers to the events 04 hold.
+    fn bytes_read(words: &str, events: &str) -> Vec<String> {
+        let all = answers(words, &lines(events));
+        all.iter().filter(|answer| answer.starts_with("04")).map(|answer| answer[4..].to_string()).collect()
+    }
+
+    #[test]
+    fn the_papers_example() {
+        let input = "0100 03A2 0300 0300 03A5 0200 0701 0100 03A2 0300 0300 0100 03A3 0401 0200";
+        let output = "01000000 03A20001 03000001 03000001 03A50001 02000000 07010000 01000000 03A20001 03000001 \
+                      03000001 01000000 03A30001 040100A5 02000000";
+        assert_eq!(answers("", &lines(input)), output.split_whitespace().collect::<Vec<_>>());
+    }
+
+    #[test]
+    fn malformed_lines_end_the_run() {
+        for bad in ["010", "0100", "0100\r\n", "\n", "010\n", "01000\n", "010g\n", "010a\n", " 0100\n", "010\u{e9}\n"] {
+            let expected = ["01000000", "FFFF0900"];
+            assert_eq!(answers("", &format!("0100\n{bad}0200\n")[..5 + bad.len()]), expected, "{bad:?}");
+            if bad.ends_with('\n') {
+                assert_eq!(answers("", &format!("0100\n{bad}0200\n")), expected, "{bad:?}");
+            }
+        }
+        assert_eq!(answers("", ""), Vec::<String>::new());
+        assert_eq!(answers("1:1 2:3", ""), ["FFFF0400"]);
+    }
+
+    #[test]
+    fn a_write_wraps_within_its_page() {
+        let read_both = "0700 0100 03A0 0300 031F 0100 03A1 0401 0200 0100 03A0 0300 0300 0100 03A1 0401 0200";
+        let write = format!("0100 03A0 0300 031F 0311 0322 0200 {read_both}");
+        assert_eq!(bytes_read("2:0", &write), ["0011", "0022"]);
+    }
+
+    #[test]
+    fn the_33rd_byte_replaces_the_first() {
+        let bytes: String = (0..=0x20).map(|byte| format!("03{byte:02X} ")).collect();
+        let write = format!("0100 03A0 0300 0300 {bytes} 0200 0700 0100 03A0 0300 0300 0100 03A1 0400 0401 0200");
+        assert_eq!(bytes_read("2:0", &write), ["0020", "0001"]);
+    }
+
+    #[test]
+    fn a_read_goes_from_the_last_address_to_0_and_f000_is_000() {
+        let write = "0100 03A0 03F0 0300 0377 0200 0700 0100 03A0 030F 03FF 0100 03A1 0400 0401 0200";
+        assert_eq!(bytes_read("2:0", write), ["00FF", "0077"]);
+    }
+
+    #[test]
+    fn strap_2_with_a16_is_aa() {
+        let write = "0100 03AA 0300*2 0355 0200 0700";
+        assert_eq!(answers("1:2", &lines(write))[1], "03AA0001");
+        // A16 counts in a write's address byte (A8h, AAh) and not in a read's (A9h).
+        for (byte, expected) in [("03AA", "0055"), ("03A8", "00FF")] {
+            let read = format!("{write} 0100 {byte} 0300*2 0100 03A9 0401 0200");
+            assert_eq!(bytes_read("1:2", &read), [expected]);
+        }
+    }
+
+    #[test]
+    fn configuration_writes_that_change_nothing() {
+        for data in ["0303 0301 0366", "0303 0301", "0302 0301 0366 0366", "0302 0301 0399"] {
+            let write = format!("0100 03B0 0388 0300 {data} 0200 0100 03B0 0388 0300 0100 03B1 0400*3 0401 0200");
+            assert_eq!(bytes_read("2:0", &write), ["0000"; 4], "{data}");
+        }
+        let write = "0100 03B0 0388 0300 03FE 0301 0366 0200 0700 0100 03B1 0400*2 0401 0200";
+        assert_eq!(bytes_read("2:0", write), ["0002", "0001", "0002"]);
+    }
+
+    #[test]
+    fn a_protected_zone_stores_nothing_and_starts_no_cycle() {
+        let protect = "0600 0100 03B0 0388 0300 0302 0301 0366 0200 0700";
+        let answer = answers("2:0", &lines(&format!("{protect} 0100 03A0 0300 0300 0333 0200 0100 03A1 0401 0200")));
+        assert_eq!(answer[17], "03A10001");
+        let read = format!("{protect} 0100 03A0 0300 0300 0333 0200 0100 03A0 0300*2 0100 03A1 0401 0200");
+        assert_eq!(bytes_read("2:0", &read), ["00FF"]);
+    }
+
+    #[test]
+    fn the_id_of_the_chosen_chip() {
+        let choose = "0100 03F8 03A9 0100 03F9 0400*3 0401 0200 0100 03F9 0401";
+        assert_eq!(bytes_read("2:0 1:2", choose), ["0000", "00D0", "00D0", "00FF", "00FF"]);
+        assert_eq!(bytes_read("2:4 1:0", choose), ["0000", "00D0", "00A8", "00FF", "00FF"]);
+    }
+
+    #[test]
+    fn a_locked_id_page_does_not_acknowledge_the_lock_command() {
+        let lock = "0100 03B0 0306 0300 0300 0200 0700";
+        let again = answers("2:0", &lines(&format!("{lock} 0100 03B0 0376 0300 0200")));
+        assert_eq!(again[8..10], ["03B00001", "03760000"]);
+        let write =
+            format!("{lock} 0100 03B0 0308 033F 0344 0200 0100 03B1 0400 0401 0100 03B0 0308 033F 0100 03B1 0401");
+        assert_eq!(bytes_read("2:0", &write), ["00FF", "00FF", "00FF"]);
+    }
+}

@@ -16,6 +16,7 @@ pub struct Block {
     pub left: u64,
 }
 
+// There is no more, and the count stays.
 fn last(left: u64) -> Block
     ensures { λ r. ⌜ (r .more ≡ true → r .left < left) ⌝ }
 {

@@ -16,6 +16,7 @@ pub struct Words {
     pub asked: Asked,
 }
 
+// What a word names, read into `word`.
 fn placing_of(i: usize, word: &mut [u8]) -> Placing {
     let n = os::arg(i, word);
     place_named(&word[..n])

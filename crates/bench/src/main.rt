@@ -58,6 +58,7 @@ fn part_of(asked: usize, most: usize) -> usize
     if asked <= most { asked } else { most }
 }
 
+// Lends the board memories of its size.
 fn fit(asked: Asked, array: &mut [u8], security: &mut [u8]) {
     let count = asked.count;
     let places = asked.places;

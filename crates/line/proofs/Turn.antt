@@ -1,13 +1,15 @@
 -- One turn of the loop over the chips is `turnAt`: shares that are cut at the stores' ends are the spans of the definition, and a
 -- chip that the event does not reach, or that does not hear it, need not be moved.
-use Prim.Native.Nat.{ℕ, _+_, _-_, _≤_}
-use native.Mathlib.Decide.{decLe}
+use Prim.Native.Nat.{ℕ, _+_, _-_, _<_, _≤_}
+use native.Mathlib.Decide.{decLe, decLt}
 use native.Mathlib.Omega.{arith}
 use mathlib.Core.Bool.{Bool, true, false, _&&_}
 use mathlib.Core.List.{List, _++_}
 use mathlib.Core.Path.{_≡_, _∙_, refl, sym, ap}
 use lib.ListN.{length, take, drop, set}
+use lib.Dec.{ltb}
 use lib.Seq.{set-getD}
+use borrow.Author.Tests.{lt-ltb}
 use Rattle.base.specs.Fold.{upTo}
 use Rattle.base.specs.Least.{least}
 use Rattle.base.specs.Store.{span, patched}
@@ -25,6 +27,7 @@ use Rattle.order.specs.declared.Order.{Order}
 use Rattle.order.specs.Order.{reaches, eventOf}
 use Rattle.order.specs.Hearing.{hears}
 use Rattle.lineup.specs.Chips.{noChip, chipAt}
+use Rattle.lineup.proofs.Until.{until-more, until-past}
 use Rattle.line.specs.declared.Played.{Played}
 use Rattle.line.specs.Line.{arrayShare, securityShare, heard, landed, turnAt}
 use Rattle.line.proofs.Deaf.{deaf-stays}
@@ -90,3 +93,16 @@ module _ (order : Order) (places : List Place) (i : ℕ) (chips : List Chip) (sa
       ∙ rw (set-getD chips i noChip, patched-same (arrayStart places i) (figuresAt places i .array) array, patched-same (securityStart places i) (figuresAt places i .security) security) refl
       ))
   turn-passed false is deaf = second-one _ _ is refl
+
+-- the chips past the count, and those that the event passes by, are not moved
+module _ (order : Order) (places : List Place) (i n : ℕ) (chips : List Chip) (said : Said) (array security : List ℕ) (start : World) (so-far : world chips said array security ≡ upTo (turnAt order places) (least i n) start) where
+  pub turn-none : (ltb i n && (reaches order i && hears (eventOf order) (chipAt chips i .control .phase))) ≡ false
+      → world chips said array security ≡ upTo (turnAt order places) (least (i + 1) n) start
+  turn-none passed = go (decLt i n)
+    where
+      go : Dec (i < n) → world chips said array security ≡ upTo (turnAt order places) (least (i + 1) n) start
+      go (yes p) =
+          until-more (turnAt order places) n start i so-far p
+          (turn-passed order places i chips said array security _ refl
+          (ap (λ (here : Bool). here && (reaches order i && hears (eventOf order) (chipAt chips i .control .phase))) (sym (lt-ltb i n p)) ∙ passed))
+      go (no p) = until-past (turnAt order places) n start i so-far (omega arith) refl

@@ -7,7 +7,7 @@ use board::placed;
 use chip::Chip;
 use chip::event::Event;
 use control::Said;
-use lineup::places_of;
+use lineup::controls_of;
 use order::Order;
 use order::event_of;
 use order::hearing::clashes_with;
@@ -34,11 +34,11 @@ pub fn clash(event: Event, count: usize, chips: [Chip; PLACES]) -> bool
     ensures { λ r. ⌜ r ≡ clash event count chips ⌝ }
 {
     let n = placed(count);
+    let controls = controls_of(chips);
     let mut found = false;
     let mut i: usize = 0;
     while i < n {
-        let chip = chips[i];
-        let control = chip.control;
+        let control = controls[i];
         let phase = control.phase;
         found = or(clashes_with(event, phase), found);
         i += 1;
@@ -57,6 +57,7 @@ fn heard(before: Said, said: Said) -> Said
 }
 
 // Each chip in turn. Shares are cut at the stores' ends, so that stores of a wrong length are safe too; a step lets none through.
+// The turns are as many as there are places: LLVM then has one way through, and copies the chips once in and once out.
 pub fn play(
     order: Order,
     count: usize,
@@ -67,22 +68,20 @@ pub fn play(
     ensures { λ r. ⌜ (r, now (array .exit), now (security .exit)) ≡ play order count chips (now (array .entry)) (now (security .entry)) ⌝ }
 {
     let event = event_of(order);
-    let places = places_of(chips);
     let n = placed(count);
     let mut next = chips;
     let mut said = Said::Nothing;
     let mut at: usize = 0;
     let mut from: usize = 0;
     let mut i: usize = 0;
-    while i < n {
-        let place = places[i];
-        let figures = geometry_of(place.part);
-        let end = least(at + figures.array as usize, array.len());
-        let to = least(from + figures.security as usize, security.len());
+    while i < PLACES {
         let chip = next[i];
         let control = chip.control;
+        let figures = geometry_of(control.part);
+        let end = least(at + figures.array as usize, array.len());
+        let to = least(from + figures.security as usize, security.len());
         let phase = control.phase;
-        if and(reaches(order, i), hears(event, phase)) {
+        if and(i < n, and(reaches(order, i), hears(event, phase))) {
             let stepped = chip.step(&mut array[at..end], &mut security[from..to], event);
             let after = stepped.chip;
             let more = stepped.said;

@@ -26,3 +26,8 @@ placeOf c = record { part = c .part; strap = c .strap }
 unfoldable pub placesOf : List Chip → List Place
 placesOf chips =
     upTo (λ (i : ℕ) (places : List Place). set places i (placeOf (controlAt chips i))) 4 (replicate 4 nowhere)
+
+-- the chips without their loads
+unfoldable pub controlsOf : List Chip → List Control
+controlsOf chips =
+    upTo (λ (i : ℕ) (controls : List Control). set controls i (controlAt chips i)) 4 (replicate 4 (fresh 0 0))

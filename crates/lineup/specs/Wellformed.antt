@@ -2,7 +2,10 @@
 use Prim.Native.Nat.{ℕ}
 use mathlib.Core.Bool.{Bool, _&&_}
 use mathlib.Core.List.{List}
+use lib.ListN.{getD}
 use Rattle.base.specs.Fold.{allBelow, allPairs}
+use Rattle.control.specs.declared.Control.{Control}
+use Rattle.control.specs.Control.{fresh}
 use Rattle.chip.specs.declared.Chip.{Chip}
 use Rattle.wellformed.specs.Wellformed as chip
 use Rattle.wellformed.specs.Beside.{sideBySide}
@@ -23,6 +26,10 @@ chipsFit count chips = allBelow (λ (i : ℕ). chip.wellFormed (chipAt chips i))
 -- no two chips are in each other's way: at most one is active, and while another awaits a byte it waits too
 abbrev pub chipsApart : ℕ → List Chip → Bool
 chipsApart count chips = allPairs (λ (i j : ℕ). sideBySide (controlAt chips i) (controlAt chips j)) (placed count)
+
+-- two of the chips, by their controls alone
+abbrev pub besideOne : List Control → ℕ → ℕ → Bool
+besideOne controls i j = sideBySide (getD controls i (fresh 0 0)) (getD controls j (fresh 0 0))
 
 unfoldable pub wellFormed : ℕ → List Chip → Bool
 wellFormed count chips = setUpPasses count chips && (chipsFit count chips && chipsApart count chips)

@@ -5,15 +5,15 @@ use board::Place;
 use board::board_verdict;
 use board::placed;
 use chip::Chip;
+use control::Control;
 use refusal::is_passed;
 use wellformed::beside::side_by_side;
 ghost use mathlib.Core.Path.{_≡_};
 ghost use Prim.Native.Nat.{ℕ, _≤_, _<_};
 ghost use Rattle.base.specs.Fold.{allBelow, allPairs};
 ghost use Rattle.wellformed.specs.Wellformed as one;
-ghost use Rattle.wellformed.specs.Beside.{sideBySide};
-ghost use Rattle.lineup.specs.Chips.{chipAt, controlAt, placesOf};
-ghost use Rattle.lineup.specs.Wellformed.{wellFormed};
+ghost use Rattle.lineup.specs.Chips.{chipAt, placesOf, controlsOf};
+ghost use Rattle.lineup.specs.Wellformed.{besideOne, wellFormed};
 
 // Every chip's part and strap, those past the count too.
 pub fn places_of(chips: [Chip; PLACES]) -> [Place; PLACES]
@@ -33,47 +33,62 @@ pub fn places_of(chips: [Chip; PLACES]) -> [Place; PLACES]
     places
 }
 
-// Each chip by itself.
+// Every chip without its load, those past the count too: what one chip is beside another needs no load, and a load is long.
+pub fn controls_of(chips: [Chip; PLACES]) -> [Control; PLACES]
+    ensures { λ r. ⌜ r ≡ controlsOf chips ⌝ }
+{
+    let mut controls = [Control::fresh(0, 0); PLACES];
+    let mut i: usize = 0;
+    while i < PLACES {
+        let chip = chips[i];
+        let control = chip.control;
+        controls[i] = control;
+        i += 1;
+    }
+    controls
+}
+
+// Each chip by itself. The turns are as many as there are places, so that LLVM writes them out and copies no chip.
 fn chips_fit(n: usize, chips: [Chip; PLACES]) -> bool
     requires { ⌜ n ≤ 4 ⌝ }
     ensures { λ r. ⌜ r ≡ allBelow (λ (i : ℕ). one.wellFormed (chipAt chips i)) n ⌝ }
 {
     let mut fit = true;
     let mut i: usize = 0;
-    while i < n {
-        let chip = chips[i];
-        fit = and(wellformed::well_formed(chip), fit);
+    while i < PLACES {
+        if i < n {
+            let chip = chips[i];
+            fit = and(wellformed::well_formed(chip), fit);
+        }
         i += 1;
     }
     fit
 }
 
 // Chip i and each one before it.
-fn beside_earlier(i: usize, chips: [Chip; PLACES]) -> bool
+fn beside_earlier(i: usize, controls: [Control; PLACES]) -> bool
     requires { ⌜ i < 4 ⌝ }
-    ensures { λ r. ⌜ r ≡ allBelow (λ (j : ℕ). sideBySide (controlAt chips i) (controlAt chips j)) i ⌝ }
+    ensures { λ r. ⌜ r ≡ allBelow (besideOne controls i) i ⌝ }
 {
-    let chip = chips[i];
-    let control = chip.control;
+    let control = controls[i];
     let mut apart = true;
     let mut j: usize = 0;
     while j < i {
-        let other = chips[j];
-        let beside = other.control;
-        apart = and(side_by_side(control, beside), apart);
+        let other = controls[j];
+        apart = and(side_by_side(control, other), apart);
         j += 1;
     }
     apart
 }
 
-fn chips_apart(n: usize, chips: [Chip; PLACES]) -> bool
+fn chips_apart(n: usize, controls: [Control; PLACES]) -> bool
     requires { ⌜ n ≤ 4 ⌝ }
-    ensures { λ r. ⌜ r ≡ allPairs (λ (i j : ℕ). sideBySide (controlAt chips i) (controlAt chips j)) n ⌝ }
+    ensures { λ r. ⌜ r ≡ allPairs (besideOne controls) n ⌝ }
 {
     let mut apart = true;
     let mut i: usize = 0;
     while i < n {
-        apart = and(beside_earlier(i, chips), apart);
+        apart = and(beside_earlier(i, controls), apart);
         i += 1;
     }
     apart
@@ -85,5 +100,6 @@ pub fn well_formed(count: usize, chips: [Chip; PLACES]) -> bool
 {
     let n = placed(count);
     let set_up = is_passed(board_verdict(count, places_of(chips)));
-    and(set_up, and(chips_fit(n, chips), chips_apart(n, chips)))
+    let apart = chips_apart(n, controls_of(chips));
+    and(set_up, and(chips_fit(n, chips), apart))
 }

@@ -28,9 +28,11 @@ impl Load {
     pub fn emptied(self) -> Load
         ensures { λ r. ⌜ r ≡ emptied self ⌝ }
     {
-        let mut load = self;
-        load.marks = [false; PAGE_MOST];
-        load
+        let values = self.values;
+        Load {
+            marks: [false; PAGE_MOST],
+            values,
+        }
     }
 
     // A value, marked, at the place of an address in its page.
@@ -58,19 +60,19 @@ impl Load {
         found
     }
 
-    // Whether no byte is marked at some place or past it.
+    // Whether no byte is marked at some place or past it. The marks are copied alone and looked at with no other test: LLVM makes
+    // vectors of that.
     pub fn within(self, most: u32) -> bool
         ensures { λ r. ⌜ r ≡ within most self ⌝ }
     {
-        let end = most as usize;
-        let mut fits = true;
-        let mut i: usize = 0;
+        let marks = self.marks;
+        let mut found = false;
+        let mut i = base::number::least(most as usize, PAGE_MOST);
         while i < PAGE_MOST {
-            let unmarked = !self.marks[i];
-            fits = base::test::and(base::test::or(unmarked, i < end), fits);
+            found = base::test::or(marks[i], found);
             i += 1;
         }
-        fits
+        !found
     }
 
     // The marked bytes go to their places in the page that an address lies in; the page's others stay.

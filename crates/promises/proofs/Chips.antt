@@ -26,7 +26,8 @@ use Rattle.lineup.specs.Chips.{noChip, chipAt, placesOf}
 use Rattle.line.specs.declared.Played.{Played}
 use Rattle.line.specs.Line.{arrayShare, securityShare, heard, landed, turnAt, play}
 use Rattle.promises.specs.Own.{own, gathered}
-use Rattle.promises.proofs.Filled.{filled, filled-length, filled-past, filled-at, stored, Stored, all-stored}
+use Rattle.lineup.proofs.Filled.{filled, filled-length, filled-past, filled-at}
+use Rattle.promises.proofs.Filled.{stored, Stored, all-stored}
 
 abbrev World : Type 0
 World = Played × List ℕ × List ℕ

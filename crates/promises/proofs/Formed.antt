@@ -6,7 +6,7 @@ use mathlib.Core.Bool.{Bool, true, false, not}
 use mathlib.Core.List.{List}
 use mathlib.Core.Path.{_≡_, ap}
 use lib.Dec.{eqb}
-use lib.ListN.{length, replicate}
+use lib.ListN.{length}
 use borrow.Author.Tests.{eqb-true, eq-eqb, not-false}
 use Rattle.base.proofs.Fold.{and-left, and-right, and-both, or-none, all-each, all-at, all-pairs-each, all-pairs-at}
 use Rattle.chip.specs.declared.Chip.{Chip}
@@ -17,20 +17,14 @@ use Rattle.refusal.specs.Refusal.{statusOf}
 use Rattle.refusal.specs.Checks.{firstOf, isPassed}
 use Rattle.refusal.proofs.Checks.{Checks, NoneHolds, passed-exactly-when}
 use Rattle.board.specs.declared.Place.{Place}
-use Rattle.board.specs.Place.{nowhere, placeAt, placed}
+use Rattle.board.specs.Place.{placed}
 use Rattle.board.specs.Board.{boardVerdict}
 use Rattle.board.specs.Shares.{arrayStart, securityStart, wrongLength}
-use Rattle.lineup.specs.Chips.{chipAt, controlAt, placeOf, placesOf}
+use Rattle.lineup.specs.Chips.{chipAt, controlAt, placesOf}
 use Rattle.lineup.specs.Wellformed.{setUpPasses, chipsFit, wellFormed}
 use Rattle.bus.specs.declared.Bus.{Bus}
 use Rattle.bus.specs.Step.{entryChecks}
 use Rattle.bus.proofs.Entry.{passed, entered}
-use Rattle.promises.proofs.Filled.{filled-at}
-
--- a place is its chip's part and strap
-pub place-at : (chips : List Chip) (i : ℕ) → i < 4 → placeAt (placesOf chips) i ≡ placeOf (controlAt chips i)
-unfolding placesOf
-place-at chips i below = filled-at (λ (k : ℕ). placeOf (controlAt chips k)) (replicate 4 nowhere) 4 i nowhere (omega arith) below
 
 -- checks that pass find nothing
 pub none-holds : (checks : Checks) → firstOf checks ≡ Passed → NoneHolds checks

@@ -28,6 +28,7 @@ use Rattle.board.proofs.Laws.{placed-most}
 use Rattle.order.specs.declared.Order.{Order}
 use Rattle.order.specs.declared.Order.the-variants.{ToAll, ToOne}
 use Rattle.order.specs.Order.{kindOf, orderOf, reaches, eventOf}
+use Rattle.lineup.proofs.Laws.{place-at}
 use Rattle.lineup.specs.Chips.{chipAt, controlAt, placeOf, placesOf}
 use Rattle.lineup.specs.Wellformed.{wellFormed}
 use Rattle.line.specs.declared.Played.{Played}
@@ -36,7 +37,7 @@ use Rattle.bus.specs.declared.Bus.{Bus}
 use Rattle.bus.specs.Step.{entryChecks, eventChecks, stepBy, played, event}
 use Rattle.promises.specs.Own.{own}
 use Rattle.promises.proofs.Chips.{each-chip-takes-its-own, the-rest-stays, stores-keep-their-length, chips-stay-four}
-use Rattle.promises.proofs.Formed.{place-at, none-holds, Formed, formed-of, of-formed, Ready, ready-of, of-ready}
+use Rattle.promises.proofs.Formed.{none-holds, Formed, formed-of, of-formed, Ready, ready-of, of-ready}
 
 -- an event that names one chip is of a kind that moves it into no chip's way
 abbrev Fair : Order → Type 0

@@ -25,12 +25,13 @@ use Rattle.board.specs.Place.{placeAt, placed}
 use Rattle.board.specs.Board.{unknownPart, strapOutside, sharedAddress, boardChecks, boardVerdict}
 use Rattle.board.specs.Shares.{figuresAt}
 use Rattle.board.proofs.Laws.{placed-most}
+use Rattle.lineup.proofs.Laws.{place-at}
 use Rattle.lineup.specs.Chips.{noChip, chipAt, controlAt, placeOf, placesOf}
 use Rattle.lineup.specs.Wellformed.{wellFormed}
 use Rattle.bus.specs.Setup.{setUpChecks, emptyChip, empty, freshChips, freshBus, setUpBy, setUp}
 use Rattle.bus.specs.Step.{entryChecks}
-use Rattle.promises.proofs.Filled.{filled-length, filled-at}
-use Rattle.promises.proofs.Formed.{place-at, none-holds, Formed, of-formed, right-lengths, Ready, of-ready}
+use Rattle.lineup.proofs.Filled.{filled-length, filled-at}
+use Rattle.promises.proofs.Formed.{none-holds, Formed, of-formed, right-lengths, Ready, of-ready}
 
 -- two boards whose places agree as far as the count goes
 any-same : (test test′ : ℕ → Bool) (n : ℕ) → ((i : ℕ) → i < n → test i ≡ test′ i) → anyBelow test n ≡ anyBelow test′ n

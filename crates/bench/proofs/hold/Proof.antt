@@ -1,6 +1,6 @@
 -- `hold` is safe and ends: it reads a block, and as long as there is one it answers it and makes the next. The count that a block has falls from one block to the next, by what `next_block` ensures (`falls`); of `converse` nothing is asked but that what was lent comes back.
 -- Each call is first shown with no code around it (`reads`, `hears`, `nexts`): the bus in its local and the slices are lent for the call, the text to `converse` and the answers to `next_block` as shared, and are had again when the call is over (`lent`'s `Lends.antt`).
--- The walk then goes over the code with the four slices in hand. It is made at any type and machine value of a bus: at those of `Bus`, antt computes too long.
+-- The walk then goes over the code with the four slices in hand. It is made at any type and machine value of a bus, so that antt computes nothing of those of `Bus`, which are large.
 use mathlib.Core.Path.{_≡_, refl, sym, ap}
 use mathlib.Core.Bool.{Bool, true, false, false≢true}
 use mathlib.Core.WellFounded.{WellFounded, InvImage·wf}

@@ -1,21 +1,20 @@
 -- The loop's test so far is the definition's up to i.
-use Rattle.lineup.specs.Chips.{controlAt}
-use Rattle.wellformed.specs.Beside.{sideBySide}
+use Rattle.lineup.specs.Wellformed.{besideOne}
 use borrow.Author.Needs.{needs}
 use native.Mathlib.Omega.{arith}
 use mathlib.Core.Path.{_≡_, _∙_, ap}
 use mathlib.Core.Bool.{Bool, _&&_}
-use Prim.Native.Nat.{ℕ, _≤_, _-_}
+use Prim.Native.Nat.{_≤_, _-_}
 use Rattle.base.specs.Fold.{allPairs}
 use Rattle.base.proofs.Fold.{up-none, up-more, up-end}
 use Rattle.lineup.proofs.chips_apart.Statement.{statement}
 use Rattle.lineup.proofs.chips_apart.Tie as tie
 
 abbrev Inv-loop : tie.InvT-loop
-Inv-loop n chips apart₀ i₀ apart i = (apart ≡ allPairs (λ (k j : ℕ). sideBySide (controlAt chips k) (controlAt chips j)) i) × (i ≤ n)
+Inv-loop n controls apart₀ i₀ apart i = (apart ≡ allPairs (besideOne controls) i) × (i ≤ n)
 
 abbrev μ-loop : tie.MeasureT-loop
-μ-loop n chips apart₀ i₀ apart i = n - i
+μ-loop n controls apart₀ i₀ apart i = n - i
 
 loop-holds : tie.Need-loop-holds Inv-loop μ-loop
 loop-holds c = (up-none _ _, omega arith)

@@ -12,9 +12,8 @@ use board::shares::security_start;
 use bus::Bus;
 use command::board_asked;
 use conversation::converse;
-use factory::ARRAY_MOST;
-use factory::ERASED;
-use factory::SECURITY_MOST;
+use factory::erased_arrays;
+use factory::erased_registers;
 use factory::mark_serials;
 use placing::asked::Asked;
 use refusal::Verdict;
@@ -78,7 +77,7 @@ fn main() {
         command::say_expected();
         return;
     }
-    let mut array = [ERASED; ARRAY_MOST];
-    let mut security = [ERASED; SECURITY_MOST];
+    let mut array = erased_arrays();
+    let mut security = erased_registers();
     fit(words.asked, &mut array, &mut security);
 }

@@ -5,16 +5,33 @@ use board::placed;
 use board::shares::security_start;
 ghost use Prim.Native.Nat.{_≤_, _^_};
 ghost use mathlib.Core.Path.{_≡_};
-ghost use lib.ListN.{set};
+ghost use lib.ListN.{set, length};
+ghost use Rattle.factory.specs.Memory.{erased};
 ghost use Rattle.factory.specs.Serial.{marked, serialByte, serials};
 
 // A byte of an erased memory.
-pub const ERASED: u8 = 0xFF;
+const ERASED: u8 = 0xFF;
 
 // Four arrays, and four security registers, of the largest part.
-pub const ARRAY_MOST: usize = 524_288;
+const ARRAYS: usize = 524_288;
 
-pub const SECURITY_MOST: usize = 2_048;
+const REGISTERS: usize = 2_048;
+
+// The arrays of the largest board, erased. The length is said by itself, so that no caller has to count the bytes.
+pub fn erased_arrays() -> [u8; ARRAYS]
+    ensures { λ r. ⌜ 524288 ≡ length r ⌝ }
+    ensures { λ r. ⌜ r ≡ erased 524288 ⌝ }
+{
+    [ERASED; ARRAYS]
+}
+
+// Its security registers likewise.
+pub fn erased_registers() -> [u8; REGISTERS]
+    ensures { λ r. ⌜ 2048 ≡ length r ⌝ }
+    ensures { λ r. ⌜ r ≡ erased 2048 ⌝ }
+{
+    [ERASED; REGISTERS]
+}
 
 // The bytes of a serial number.
 const SERIAL: usize = 16;

@@ -5,9 +5,8 @@ use board::shares::array_start;
 use board::shares::security_start;
 use bus::Bus;
 use conversation::answer_all;
-use factory::ARRAY_MOST;
-use factory::ERASED;
-use factory::SECURITY_MOST;
+use factory::erased_arrays;
+use factory::erased_registers;
 use factory::mark_serials;
 use libc::STDOUT_FILENO;
 use placing::asked::Asked;
@@ -189,8 +188,8 @@ pub fn as_recorded(name: &[u8], asked: Asked) -> bool {
         tell(name, b".answers: missing, or too long\n");
         return false;
     }
-    let mut array = [ERASED; ARRAY_MOST];
-    let mut security = [ERASED; SECURITY_MOST];
+    let mut array = erased_arrays();
+    let mut security = erased_registers();
     let mut said = [0u8; ANSWERS];
     let written = play_on(
         asked,

@@ -1,6 +1,6 @@
 mod Filled
 pub mod Chips
-mod Formed
+pub mod Formed
 pub mod Steps
 pub mod Kept
 pub mod Setup

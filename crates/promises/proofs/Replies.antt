@@ -28,7 +28,7 @@ use Rattle.promises.specs.Own.{own, gathered}
 use Rattle.promises.proofs.Formed.{formed-of}
 use Rattle.promises.proofs.Sent.{isByte, sent-no-byte}
 
-abbrev isAck : Said → Bool
+abbrev pub isAck : Said → Bool
 isAck Nothing = false
 isAck Ack = true
 isAck (Byte byte) = false
@@ -46,7 +46,7 @@ acked (Byte byte) other is = absurd (true≢false other)
 
 -- what a line carries when n chips have spoken
 module _ (says : ℕ → Said) where
-  abbrev carried : ℕ → Said
+  abbrev pub carried : ℕ → Said
   carried n = upTo (λ (i : ℕ) (said : Said). heard said (says i)) n Nothing
 
   module _ (no-byte : (i : ℕ) → isByte (says i) ≡ false) where
@@ -76,7 +76,7 @@ module _ (says : ℕ → Said) where
   silent-line zero silent = refl
   silent-line (suc n) silent = rw (silent n (omega arith)) (silent-line n (λ i below. silent i (omega arith)))
 
-  one-speaks : (n i : ℕ) → i < n → ((j : ℕ) → j < n → (j ≡ i → ⊥) → says j ≡ Nothing) → carried n ≡ says i
+  pub one-speaks : (n i : ℕ) → i < n → ((j : ℕ) → j < n → (j ≡ i → ⊥) → says j ≡ Nothing) → carried n ≡ says i
   unfolding upTo
   one-speaks zero i below others = absurd (omega arith)
   one-speaks (suc n) i below others = go (decLt i n) (λ (p : i < n). one-speaks n i p (λ j before differ. others j (omega arith) differ))

@@ -1,0 +1,116 @@
+-- F8h straight after a Start is acknowledged exactly when some chip is not busy, on any bus that passes the checks at entry: after the Start
+-- every chip awaits an address byte or is busy, and F8h is acknowledged by the ones that await.
+use Prim.Native.Nat.{ℕ, zero, suc, _<_}
+use native.Mathlib.Omega.{arith}
+use mathlib.Core.Bool.{Bool, true, false, cond, not, _&&_, true≢false, false≢true}
+use mathlib.Core.List.{List, [], _∷_}
+use mathlib.Core.Logic.{_⊎_, inl, inr}
+use mathlib.Core.Path.{_≡_, _∙_, refl, sym, ap}
+use lib.ListN.{length, getD, take}
+use borrow.Author.Tests.{eqb-true, not-true, not-false}
+use Rattle.base.specs.Fold.{anyBelow}
+use Rattle.base.specs.Word.{wordOf}
+use Rattle.base.proofs.Fold.{and-left, and-right, any-some, any-none, none-any}
+use Rattle.control.specs.declared.Said.{Said}
+use Rattle.control.specs.declared.Said.the-variants.{Nothing, Ack}
+use Rattle.control.specs.Phase.{isBusy, isSending}
+use Rattle.chip.specs.declared.Chip.{Chip}
+use Rattle.chip.specs.declared.event.Event.{Event}
+use Rattle.chip.specs.declared.event.Event.the-variants.{Start, Sent}
+use Rattle.refusal.specs.Refusal.{answerWord}
+use Rattle.refusal.specs.declared.Answer.the-variants as answer
+use Rattle.board.specs.Place.{placed}
+use Rattle.order.specs.declared.Order.the-variants.{ToAll}
+use Rattle.order.specs.Order.{valueOf}
+use Rattle.order.specs.Hearing.{clashesWith}
+use Rattle.lineup.specs.Chips.{chipAt, controlAt}
+use Rattle.line.specs.Line.{clash, play, lineReply}
+use Rattle.bus.specs.declared.Stepped.{Stepped}
+use Rattle.bus.specs.Step.{played, step}
+use Rattle.bus.proofs.Entry.{Entered, entered}
+use Rattle.promises.specs.Own.{own, gathered}
+use Rattle.promises.proofs.Chips.{answer-is-gathered}
+use Rattle.promises.proofs.Replies.{isAck, acknowledged-exactly-when, else-unanswered}
+use Rattle.turns.specs.Turn.{isStart}
+use Rattle.turns.specs.Shuffle.{isCall, isAfterStart, isExcepted}
+use Rattle.turns.specs.Alone.{World, alone}
+use Rattle.turns.specs.Playing.{afterOne, answerTo, after, answersTo}
+use Rattle.turns.specs.Undisturbed.{isSomeFree, Acknowledged}
+use Rattle.turns.proofs.Asked.{Legal, start-asks, sent-asks}
+use Rattle.turns.proofs.Resting.{isHeeding, start-heeds, heeding-sends-nothing, call-said}
+use Rattle.turns.proofs.Stepping.{Entering, entering-kept, step-plays, count-kept, each-moves}
+
+-- a bus on which every chip awaits an address byte or is busy
+module _ (world : World) (e : Entering world) (heeding : (i : ℕ) → i < world .0 .count → isHeeding (controlAt (world .0 .chips) i .phase) ≡ true) where
+  abbrev count : ℕ
+  count = world .0 .count
+
+  abbrev chips : List Chip
+  chips = world .0 .chips
+
+  entry : Entered (world .0) (world .1) (world .2)
+  entry = entered (world .0) (world .1) (world .2) (e .enters)
+
+  abbrev free : ℕ → Bool
+  free i = not (isBusy (controlAt chips i .phase))
+
+  says : (i : ℕ) → i < placed count → own (ToAll (Sent 0xF8)) chips (world .1) (world .2) i .0 .said ≡ cond (isBusy (controlAt chips i .phase)) Nothing Ack
+  says i below = call-said (chipAt chips i) _ _ (heeding i (omega (arith, entry .all-placed)))
+
+  abbrev reply : ℕ
+  reply = lineReply (Sent 0xF8) (gathered (ToAll (Sent 0xF8)) count chips (world .1) (world .2))
+
+  -- 01 where a chip is free, and where none is no chip acknowledges
+  reply-is : (some : Bool) → anyBelow free (placed count) ≡ some → reply ≡ cond some 0x01 0x00
+  reply-is true is =
+      let (i, (below, here)) = any-some free (placed count) is in
+      let idle : isBusy (controlAt chips i .phase) ≡ false = not-true _ here in
+      acknowledged-exactly-when 0xF8 count chips (world .1) (world .2) .1 (i, (below, says i below ∙ rw idle))
+  reply-is false is = go (else-unanswered 0xF8 count chips (world .1) (world .2))
+    where
+      go : (reply ≡ 1) ⊎ (reply ≡ 0) → reply ≡ 0x00
+      go (inl one) =
+          let (i, (below, acked)) = acknowledged-exactly-when 0xF8 count chips (world .1) (world .2) .0 one in
+          let busy : isBusy (controlAt chips i .phase) ≡ true = not-false _ (any-none free (placed count) i is below) in
+          absurd (false≢true (ap isAck (rw busy at (sym (says i below) ∙ acked))))
+      go (inr none) = none
+
+  call-answered : (word : ℕ) → isCall word ≡ true → answerTo step world word ≡ wordOf 0 (cond (isSomeFree (world .0)) 0x01 0x00)
+  unfolding played
+  call-answered word is = go (eqb-true word (wordOf 3 0xF8) is)
+    where
+      calm : clash (Sent 0xF8) count chips ≡ false
+      calm = none-any (λ (i : ℕ). isSending (controlAt chips i .phase)) (placed count) (λ i below. heeding-sends-nothing (controlAt chips i .phase) (heeding i (omega (arith, entry .all-placed))))
+
+      go : word ≡ wordOf 3 0xF8 → answerTo step world word ≡ wordOf 0 (cond (isSomeFree (world .0)) 0x01 0x00)
+      go same =
+          rw same (
+          ap (λ (next : Stepped × List ℕ × List ℕ). answerWord (next .0 .answer)) (step-plays world (wordOf 3 0xF8) (ToAll (Sent 0xF8)) e (sent-asks count (wordOf 3 0xF8) refl .0) calm)
+          ∙ ap (λ (said : Said). wordOf 0 (lineReply (Sent 0xF8) said)) (answer-is-gathered (ToAll (Sent 0xF8)) count chips (world .1) (world .2) (e .four) (entry .array-fits) (entry .security-fits))
+          ∙ ap (λ (byte : ℕ). wordOf 0 byte) (reply-is (anyBelow free (placed count)) refl)
+          )
+
+-- a Start leaves such a bus
+start-leaves : (world : World) (word : ℕ) → Entering world → isStart word ≡ true
+    → (i : ℕ) → i < afterOne step world word .0 .count → isHeeding (controlAt (afterOne step world word .0 .chips) i .phase) ≡ true
+start-leaves world word e is i below =
+    let legal = start-asks (world .0 .count) word is .0 in
+    let calm : clash Start (world .0 .count) (world .0 .chips) ≡ false = none-any (λ (i : ℕ). false) (placed (world .0 .count)) (λ i below. refl) in
+    ap (λ (w : World). isHeeding (controlAt (w .0 .chips) 0 .phase)) (each-moves world word (ToAll Start) e legal calm i (omega (arith, below, count-kept world word (ToAll Start) e legal)))
+    ∙ start-heeds (chipAt (world .0 .chips) i) (alone i world .1) (alone i world .2)
+
+-- wherever it stands in a list of events
+pub call-acknowledged : (events : List ℕ) (world : World) → Entering world → Acknowledged step world events
+unfolding after answersTo
+call-acknowledged [] world e = λ i is. absurd (false≢true (and-right (isAfterStart false [] i) _ is))
+call-acknowledged (word ∷ more) world e = go (call-acknowledged more (afterOne step world word) (entering-kept world word e)) more refl
+  where
+    go : Acknowledged step (afterOne step world word) more → (rest : List ℕ) → more ≡ rest → Acknowledged step world (word ∷ more)
+    go later rest same zero is = absurd (false≢true is)
+    go later [] same (suc zero) is = absurd (false≢true (and-right (isStart word) _ (rw same at is)))
+    go later (call ∷ rest) same (suc zero) is =
+        let both = rw same at is in
+        rw same (
+        call-answered (afterOne step world word) (entering-kept world word e) (start-leaves world word e (and-left _ _ both)) call (and-right (isStart word) _ both)
+        )
+    go later rest same (suc (suc i)) is = later (suc i) is

@@ -1,0 +1,128 @@
+-- A chip alone on the line: where the whole bus passes the checks at entry, so does the bus of that chip only; and what it makes of an
+-- event is the chip's own step on stores that are all its own.
+use Prim.Native.Nat.{ℕ, _+_, _<_, _≤_}
+use native.Mathlib.Nat.{zero-add}
+use native.Mathlib.Omega.{arith}
+use mathlib.Core.Bool.{true, _&&_}
+use mathlib.Core.List.{List, [], _∷_, _++_, append-nil}
+use mathlib.Core.Path.{_≡_, _∙_, refl, sym, ap}
+use lib.ListN.{length, take, drop, drop-of-length-le}
+use lib.Seq.{take-all}
+use Rattle.base.specs.Fold.{upTo}
+use Rattle.base.specs.Store.{span}
+use Rattle.base.proofs.Fold.{and-left, and-right}
+use Rattle.base.proofs.Store.{span-length}
+use Rattle.parts.specs.declared.part.Geometry.{Geometry}
+use Rattle.parts.specs.Part.{isPart, geometryOf}
+use Rattle.control.specs.declared.Said.the-variants.{Nothing}
+use Rattle.chip.specs.declared.Chip.{Chip}
+use Rattle.chip.specs.declared.Stepped.{Stepped}
+use Rattle.chip.specs.Chip as chip
+use Rattle.wellformed.specs.Wellformed.{isSetUp, countersFit, controlFits}
+use Rattle.wellformed.specs.Wellformed as own
+use Rattle.keeping.proofs.Lengths.{lengths-kept}
+use Rattle.refusal.specs.declared.Verdict.the-variants.{Passed}
+use Rattle.refusal.specs.Checks.{firstOf}
+use Rattle.board.specs.declared.Place.{Place}
+use Rattle.board.specs.Place.{placeAt, placed}
+use Rattle.board.specs.Board.{boardVerdict}
+use Rattle.board.specs.Shares.{figuresAt}
+use Rattle.board.proofs.Laws.{startOf, ends-before}
+use Rattle.order.specs.declared.Order.{Order}
+use Rattle.order.specs.Order.{reaches, eventOf}
+use Rattle.lineup.specs.Chips.{chipAt, placesOf}
+use Rattle.lineup.proofs.Laws.{place-at}
+use Rattle.line.specs.declared.Played.{Played}
+use Rattle.line.specs.Line.{heard, play}
+use Rattle.bus.specs.declared.Bus.{Bus}
+use Rattle.bus.specs.Setup.{emptyChip}
+use Rattle.bus.specs.Step.{entryChecks}
+use Rattle.bus.proofs.Entry.{Entered, entered}
+use Rattle.promises.proofs.Formed.{Formed, formed-of, of-formed, of-ready}
+use Rattle.turns.specs.Alone.{World, alone}
+
+-- a bus of one chip
+abbrev pub onlyBus : Chip → Bus
+onlyBus c = record { count = 1; chips = c ∷ emptyChip ∷ emptyChip ∷ emptyChip ∷ [] }
+
+-- stores that are all its own
+abbrev pub Fits : Chip → List ℕ → List ℕ → Type 0
+Fits c array security = (length array ≡ geometryOf (c .control .part) .array) × (length security ≡ geometryOf (c .control .part) .security)
+
+-- a share that is the whole store, exchanged for one as long
+whole-share : (n : ℕ) (store : List ℕ) → length store ≡ n → take n (drop 0 store) ≡ store
+whole-share n store long = take-all n store (omega (arith, long))
+
+whole-patch : (values store : List ℕ) → length values ≡ length store → values ++ drop (length values) (drop 0 store) ≡ values
+whole-patch values store long =
+    let past : drop (length values) store ≡ [] = drop-of-length-le store {i = length values} (omega (arith, long)) in
+    rw past (append-nil values)
+
+module _ (order : Order) (c : Chip) (array security : List ℕ) (fits : Fits c array security) (reached : reaches order 0 ≡ true) where
+  abbrev taken : Stepped × List ℕ × List ℕ
+  taken = chip.step c array security (eventOf order)
+
+  pub alone-plays : play order 1 (onlyBus c .chips) array security ≡ (record { chips = onlyBus (taken .0 .chip) .chips; said = heard Nothing (taken .0 .said) }, taken .1, taken .2)
+  unfolding play upTo placesOf
+  alone-plays =
+      rw (
+        reached,
+        whole-share _ array (fits .0),
+        whole-share _ security (fits .1),
+        whole-patch (taken .1) array (lengths-kept c array security (eventOf order) .0),
+        whole-patch (taken .2) security (lengths-kept c array security (eventOf order) .1),
+      )
+
+-- the shares of a chip that the count fills are as long as its part says
+module _ (world : World) (enters : firstOf (entryChecks (world .0) (world .1) (world .2)) ≡ Passed) (k : ℕ) (below : k < world .0 .count) where
+  abbrev chips : List Chip
+  chips = world .0 .chips
+
+  abbrev places : List Place
+  places = placesOf chips
+
+  abbrev c : Chip
+  c = chipAt chips k
+
+  abbrev entry : Entered (world .0) (world .1) (world .2)
+  entry = entered (world .0) (world .1) (world .2) enters
+
+  part-of : placeAt places k .part ≡ c .control .part
+  part-of = ap (λ (p : Place). p .part) (place-at chips k (omega (arith, entry .chips-most)))
+
+  share-long : (size : Geometry → ℕ) (store : List ℕ) → length store ≡ startOf (λ (i : ℕ). size (figuresAt places i)) (placed (world .0 .count))
+      → length (span (startOf (λ (i : ℕ). size (figuresAt places i)) k) (size (figuresAt places k)) store) ≡ size (geometryOf (c .control .part))
+  share-long size store fits =
+      let share : ℕ → ℕ = λ (i : ℕ). size (figuresAt places i) in
+      let inside : startOf share k + share k ≤ startOf share (placed (world .0 .count)) = ends-before share k (placed (world .0 .count)) (omega (arith, entry .all-placed)) in
+      span-length (startOf share k) (share k) store (omega (arith, fits, inside)) ∙ ap (λ (part : ℕ). size (geometryOf part)) part-of
+
+  pub shares-fit : Fits (chipAt (world .0 .chips) k) (alone k world .1) (alone k world .2)
+  shares-fit = (share-long (λ g. g .array) (world .1) (entry .array-fits), share-long (λ g. g .security) (world .2) (entry .security-fits))
+
+  formed : Formed (world .0 .count) chips
+  formed = formed-of (world .0 .count) chips (entry .formed)
+
+  fit : own.wellFormed c ≡ true
+  fit = formed .fit k (omega (arith, entry .all-placed))
+
+  set-up : boardVerdict 1 (placesOf (onlyBus c .chips)) ≡ Passed
+  unfolding boardVerdict placesOf upTo own.wellFormed
+  set-up =
+      let known : isSetUp (c .control) ≡ true = and-left (isSetUp (c .control)) _ (and-left (isSetUp (c .control) && countersFit (c .control)) _ (and-left (controlFits (c .control)) _ fit)) in
+      rw (and-left (isPart (c .control .part)) _ known, and-right (isPart (c .control .part)) _ known)
+
+  pub alone-enters : firstOf (entryChecks (alone k world .0) (alone k world .1) (alone k world .2)) ≡ Passed
+  unfolding upTo placesOf
+  alone-enters =
+      of-ready (alone k world .0) (alone k world .1) (alone k world .2) (
+        of-formed 1 (onlyBus c .chips) (
+            record {
+              set-up = set-up;
+              fit = λ i first. let is : i ≡ 0 = omega arith in rw is fit;
+              apart = λ i j first before. absurd (omega arith);
+            }
+            ),
+        shares-fit .0 ∙ sym (zero-add _),
+        shares-fit .1 ∙ sym (zero-add _),
+      )

@@ -1,0 +1,85 @@
+-- What each event of a turn asks of the line, and renamed of the chip alone: it passes 6 and 7 on both, and is the same event.
+use Prim.Native.Nat.{ℕ, _<_, _≤_}
+use native.Mathlib.Omega.{arith}
+use mathlib.Core.Bool.{Bool, true, false, _&&_}
+use mathlib.Core.Path.{_≡_, refl}
+use lib.Dec.{eqb, ltb, leb}
+use borrow.Author.Tests.{eqb-true, eqb-false, leb-true, lt-ltb}
+use Rattle.base.specs.Word.{wordOf}
+use Rattle.base.proofs.Fold.{and-left, and-right}
+use Rattle.chip.specs.declared.event.Event.{Event}
+use Rattle.chip.specs.declared.event.Event.the-variants.{Start, Stop, Sent, Read, Wp, CycleOver}
+use Rattle.order.specs.declared.Order.{Order}
+use Rattle.order.specs.declared.Order.the-variants.{ToAll, ToOne}
+use Rattle.order.specs.Order.{kindOf, valueOf, unknownKind, valueAllowed, orderOf}
+use Rattle.keeping.proofs.Beside.{isNamed}
+use Rattle.turns.specs.Turn.{isStart, isStop, isSent, isRead, isNaming}
+use Rattle.turns.specs.Alone.{renamed}
+
+-- an event word that passes 6 and 7, and what it asks for
+abbrev pub Legal : ℕ → ℕ → Order → Type 0
+Legal count word order =
+    (unknownKind (kindOf word) ≡ false) × (valueAllowed count (kindOf word) (valueOf word) ≡ true) × (orderOf word ≡ order)
+
+-- the same of a chip that is alone
+abbrev pub only : Order → Order
+only (ToAll event) = ToAll event
+only (ToOne named event) = ToOne 0 event
+
+abbrev pub Asked : ℕ → ℕ → Order → Type 0
+Asked count word order = Legal count word order × Legal 1 (renamed word) (only order)
+
+-- an event to all keeps its name
+to-all : (count word : ℕ) (event : Event) → renamed word ≡ word → ((n : ℕ) → Legal n word (ToAll event)) → Asked count word (ToAll event)
+to-all count word event same legal = (legal count, rw same (legal 1))
+
+pub start-asks : (count word : ℕ) → isStart word ≡ true → Asked count word (ToAll Start)
+unfolding orderOf
+start-asks count word is = let same : word ≡ wordOf 1 0 = eqb-true _ _ is in rw same ((refl, refl, refl), (refl, refl, refl))
+
+pub stop-asks : (count word : ℕ) → isStop word ≡ true → Asked count word (ToAll Stop)
+unfolding orderOf
+stop-asks count word is = let same : word ≡ wordOf 2 0 = eqb-true _ _ is in rw same ((refl, refl, refl), (refl, refl, refl))
+
+pub sent-asks : (count word : ℕ) → isSent word ≡ true → Asked count word (ToAll (Sent (valueOf word)))
+unfolding orderOf
+sent-asks count word is =
+    let kind : kindOf word ≡ 3 = eqb-true _ _ is in
+    to-all count word _ (rw kind) (λ n. rw kind (refl, refl, refl))
+
+pub read-asks : (count word : ℕ) → isRead word ≡ true → Asked count word (ToAll (Read (eqb (valueOf word) 1)))
+unfolding orderOf
+read-asks count word is =
+    let kind : kindOf word ≡ 4 = eqb-true _ _ (and-left _ _ is) in
+    to-all count word _ (rw kind) (λ n. rw kind (refl, and-right (eqb (kindOf word) 4) _ is, refl))
+
+-- 05, 06 or 07: WP low, WP high, cycle over
+pub naming-asks : (count k word : ℕ) → k < count → isNaming k word ≡ true
+    → (event : Event) × ((isNamed event ≡ true) × Asked count word (ToOne k event))
+unfolding orderOf
+naming-asks count k word below is = go (eqb (kindOf word) 5) (eqb (kindOf word) 6) refl refl
+  where
+    kinds : (leb 5 (kindOf word) && leb (kindOf word) 7) ≡ true
+    kinds = and-left _ _ is
+
+    value : valueOf word ≡ k
+    value = eqb-true _ _ (and-right (leb 5 (kindOf word) && leb (kindOf word) 7) _ is)
+
+    named : ltb k count ≡ true
+    named = lt-ltb k count below
+
+    go : (low high : Bool) → eqb (kindOf word) 5 ≡ low → eqb (kindOf word) 6 ≡ high
+        → (event : Event) × ((isNamed event ≡ true) × Asked count word (ToOne k event))
+    go true high five six =
+        let kind : kindOf word ≡ 5 = eqb-true _ _ five in
+        (Wp false, (refl, rw (kind, value) ((refl, named, refl), (refl, refl, refl))))
+    go false true five six =
+        let kind : kindOf word ≡ 6 = eqb-true _ _ six in
+        (Wp true, (refl, rw (kind, value) ((refl, named, refl), (refl, refl, refl))))
+    go false false five six =
+        let least : 5 ≤ kindOf word = leb-true _ _ (and-left _ _ kinds) in
+        let most : kindOf word ≤ 7 = leb-true _ _ (and-right (leb 5 (kindOf word)) _ kinds) in
+        let not-five : kindOf word ≡ 5 → ⊥ = eqb-false (kindOf word) 5 five in
+        let not-six : kindOf word ≡ 6 → ⊥ = eqb-false (kindOf word) 6 six in
+        let kind : kindOf word ≡ 7 = omega (arith, least, most, not-five, not-six) in
+        (CycleOver, (refl, rw (kind, value) ((refl, named, refl), (refl, refl, refl))))

@@ -1,0 +1,244 @@
+-- A chip at rest sits through another's turn: a Start wakes it, and F8h keeps it awake, but the address byte that follows is another's, or
+-- F9h while it is not chosen, so it goes back to standby as it was. Of the rest it takes no notice.
+use Prim.Native.Nat.{ℕ, _/_, _%_, _<_, _≤_}
+use native.Mathlib.Omega.{arith}
+use mathlib.Core.Bool.{Bool, true, false, cond, not, _&&_, _||_, false≢true}
+use mathlib.Core.List.{List}
+use mathlib.Core.Path.{_≡_, _∙_, refl, sym, ap}
+use lib.Dec.{eqb, ltb, leb}
+use lib.ListN.{length, getD, replicate, getD-replicate, length-replicate}
+use lib.Seq.{ext-getD}
+use borrow.Author.Tests.{ltb-true, leb-true, eqb-true, ne-eqb, not-true, not-false}
+use Rattle.base.proofs.test.Laws.{either}
+use Rattle.base.proofs.Fold.{and-left, and-right, all-at}
+use Rattle.parts.specs.Part.{geometryOf}
+use Rattle.parts.specs.Address.{answers, shareAddress}
+use Rattle.parts.proofs.part.Laws.{sound-of}
+use Rattle.parts.proofs.address.Laws.{share-exactly-when}
+use Rattle.load.specs.declared.Load.{Load}
+use Rattle.load.specs.Load as load
+use Rattle.control.specs.declared.Answered.{Answered}
+use Rattle.control.specs.declared.Said.the-variants.{Nothing, Ack}
+use Rattle.control.specs.declared.phase.Phase.{Phase}
+use Rattle.control.specs.declared.phase.Phase.the-variants.{Standby, Busy, AwaitsAddress, AwaitsChoice, AwaitsWord, TakesData, SendsByte}
+use Rattle.control.specs.Phase.{isBusy, isSending, isTaking}
+use Rattle.control.specs.Control.{inPhase, choosing}
+use Rattle.addressing.specs.declared.Call.{Call}
+use Rattle.addressing.specs.declared.Call.the-variants.{HostF9, Nobody}
+use Rattle.addressing.specs.Address.{callOf, takeCall, takeAddress, takeChoice}
+use Rattle.taking.specs.Taking as taking
+use Rattle.cycle.specs.Stop as cycle
+use Rattle.chip.specs.declared.Chip.{Chip}
+use Rattle.chip.specs.declared.Stepped.{Stepped}
+use Rattle.chip.specs.declared.event.Event.{Event}
+use Rattle.chip.specs.declared.event.Event.the-variants.{Start, Stop, Sent, Read, Wp, CycleOver, PowerUp}
+use Rattle.chip.specs.Chip.{quiet, take, step}
+use Rattle.board.specs.declared.Place.{Place}
+use Rattle.order.specs.Hearing.{clashesWith}
+use Rattle.line.proofs.Deaf.{deaf-stays}
+use Rattle.turns.specs.Idle.{isLoading, isAtRest}
+use Rattle.turns.specs.Turn.{Next, Anything, AddressByte, ChoiceByte, isAddressOf, isFirstByte}
+
+-- in another phase, its load dropped
+abbrev pub woken : Phase → Chip → Chip
+woken phase c = record { control = inPhase phase (c .control); load = load.emptied (c .load) }
+
+-- a chip that has heard a Start, or F8h after it, and awaits the byte that follows; a busy one stays as it is
+abbrev pub awaiting : Phase → Chip → Chip
+awaiting phase c = cond (isBusy (c .control .phase)) c (woken phase c)
+
+-- a chip that has no turn, by what must come next in another's
+abbrev pub lifted : Next → Chip → Chip
+lifted Anything c = c
+lifted AddressByte c = awaiting AwaitsAddress c
+lifted ChoiceByte c = awaiting AwaitsChoice c
+
+-- a chip whose choice is dropped
+abbrev dropped : Chip → Chip
+dropped c = record { control = choosing false (c .control); load = c .load }
+
+pub hears-start : (c : Chip) (a s : List ℕ) → step c a s Start ≡ (quiet (lifted AddressByte c), a, s)
+unfolding step
+hears-start c a s = refl
+
+-- the call that a byte is for a chip whose codes are not those of a place
+module _ (c : Chip) (place : Place)
+    (unshared : shareAddress (geometryOf (place .part)) (place .strap) (geometryOf (c .control .part)) (c .control .strap) ≡ false) where
+  abbrev called : ℕ → Call
+  called byte = callOf (geometryOf (c .control .part)) (c .control .strap) byte
+
+  abbrev answered : ℕ → Bool
+  answered code = answers (geometryOf (c .control .part)) (c .control .strap) code
+
+  unanswered : (code : ℕ) → answers (geometryOf (place .part)) (place .strap) code ≡ true → answered code ≡ false
+  unanswered code theirs = go (answered code) refl
+    where
+      go : (mine : Bool) → answered code ≡ mine → mine ≡ false
+      go true is =
+          let shared = share-exactly-when _ (place .strap) _ (c .control .strap) (sound-of (place .part)) (sound-of (c .control .part)) .1 in
+          absurd (false≢true (sym unshared ∙ shared (code, (theirs, is))))
+      go false is = refl
+
+  not-the-host's : (byte : ℕ) → byte / 16 < 15 → (eqb byte 0xF8 ≡ false) × (eqb byte 0xF9 ≡ false)
+  not-the-host's byte below = (ne-eqb byte 0xF8 (λ same. omega arith), ne-eqb byte 0xF9 (λ same. omega arith))
+
+  -- an address byte of the place, and 00h to 0Fh
+  address-for-nobody : (opening byte : ℕ) → opening < 15 → isAddressOf opening place byte ≡ true → called byte ≡ Nobody
+  unfolding callOf
+  address-for-nobody opening byte below is =
+      let opens : byte / 16 ≡ opening = eqb-true _ _ (and-left _ _ is) in
+      let (not-f8, not-f9) = not-the-host's byte (omega arith) in
+      rw (not-f8, not-f9, unanswered (byte / 2 % 8) (and-right (eqb (byte / 16) opening) _ is))
+
+  low-for-nobody : (byte : ℕ) → byte ≤ 0x0F → called byte ≡ Nobody
+  unfolding callOf
+  low-for-nobody byte below =
+      let (not-f8, not-f9) = not-the-host's byte (omega arith) in
+      rw (not-f8, not-f9, ne-eqb (byte / 16) 0b1010 (λ same. omega arith), ne-eqb (byte / 16) 0b1011 (λ same. omega arith))
+      (either (λ (call : Call). call ≡ Nobody) (answered (byte / 2 % 8)) Nobody Nobody refl refl)
+
+  -- a first byte of the place is F9h or for nobody
+  first-called : (P : Call → Type 0) (byte : ℕ) → isFirstByte place byte ≡ true → P HostF9 → P Nobody → P (called byte)
+  unfolding callOf
+  first-called P byte first identity nobody =
+      go (isAddressOf 0b1010 place byte) (isAddressOf 0b1011 place byte) (leb 0x08 byte && leb byte 0x0F) refl refl refl first
+    where
+      go : (array register low : Bool) → isAddressOf 0b1010 place byte ≡ array → isAddressOf 0b1011 place byte ≡ register
+          → (leb 0x08 byte && leb byte 0x0F) ≡ low
+          → ((array || register) || (low || eqb byte 0xF9)) ≡ true
+          → P (called byte)
+      go true register low is other small some = rw (address-for-nobody 0b1010 byte (omega arith) is) nobody
+      go false true low is other small some = rw (address-for-nobody 0b1011 byte (omega arith) other) nobody
+      go false false true is other small some = rw (low-for-nobody byte (leb-true _ _ (and-right (leb 0x08 byte) _ small))) nobody
+      go false false false is other small some = rw (eqb-true byte 0xF9 some) identity
+
+-- marks none of which is set are those of an empty load
+no-marks : (n : ℕ) (marks : List Bool) → length marks ≡ n → ((i : ℕ) → i < n → getD marks i false ≡ false) → replicate n false ≡ marks
+no-marks n marks long none =
+    ext-getD false (replicate n false) marks (length-replicate n false ∙ sym long)
+    (λ i below. let inside : i < n = rw (length-replicate n false) at below in getD-replicate n i false false inside ∙ sym (none i inside))
+
+none-marked : (held : Load) → load.within 0 held ≡ true → (i : ℕ) → i < 256 → load.isMarked held i ≡ false
+unfolding load.within
+none-marked held within i below = go (load.isMarked held i) (all-at (load.fitsAt 0 held) 256 i within below)
+  where
+    go : (marked : Bool) → (not marked || ltb i 0) ≡ true → marked ≡ false
+    go true fits = absurd (omega (arith, ltb-true i 0 fits))
+    go false fits = refl
+
+module _ (c : Chip) (rest : isAtRest c ≡ true) (marks : length (c .load .marks) ≡ 256) where
+  still : (not (isSending (c .control .phase)) && not (isTaking (c .control .phase))) ≡ true
+  still = and-left _ _ rest
+
+  empty-handed : (not (isLoading c) && not (c .control .chosen)) ≡ true
+  empty-handed = and-right (not (isSending (c .control .phase)) && not (isTaking (c .control .phase))) _ rest
+
+  unchosen : c .control .chosen ≡ false
+  unchosen = not-true _ (and-right (not (isLoading c)) _ empty-handed)
+
+  sends-nothing : isSending (c .control .phase) ≡ false
+  sends-nothing = not-true _ (and-left _ _ still)
+
+  takes-nothing : isTaking (c .control .phase) ≡ false
+  takes-nothing = not-true _ (and-right (not (isSending (c .control .phase))) _ still)
+
+  -- it is on standby or busy
+  two-ways : (G : Type 0) → (c .control .phase ≡ Standby → G) → (c .control .phase ≡ Busy → G) → G
+  two-ways G standby busy = go (c .control .phase) refl still
+    where
+      go : (phase : Phase) → c .control .phase ≡ phase → (not (isSending phase) && not (isTaking phase)) ≡ true → G
+      go Standby is held = standby is
+      go Busy is held = busy is
+      go AwaitsAddress is held = absurd (false≢true held)
+      go AwaitsChoice is held = absurd (false≢true held)
+      go (AwaitsWord word) is held = absurd (false≢true held)
+      go (TakesData kind) is held = absurd (false≢true held)
+      go (SendsByte source) is held = absurd (false≢true held)
+
+  pub rest-emptied : load.emptied (c .load) ≡ c .load
+  rest-emptied =
+      ap (λ (held : List Bool). record { marks = held; values = c .load .values })
+      (no-marks 256 (c .load .marks) marks (none-marked (c .load) (not-false _ (not-true _ (and-left _ _ empty-handed)))))
+
+  -- on standby, its load and its choice dropped, it is as it was
+  asleep : c .control .phase ≡ Standby → woken Standby c ≡ c
+  asleep standby =
+      ap (λ (phase : Phase). woken phase c) (sym standby)
+      ∙ ap (λ (held : Load). record { control = c .control; load = held }) rest-emptied
+
+  unpicked : dropped c ≡ c
+  unpicked = ap (λ (picked : Bool). record { control = choosing picked (c .control); load = c .load }) (sym unchosen)
+
+  pub passes-byte : (a s : List ℕ) (byte : ℕ) → step c a s (Sent byte) ≡ (quiet c, a, s)
+  passes-byte a s byte = deaf-stays c a s (Sent byte) takes-nothing
+
+  pub passes-read : (a s : List ℕ) (nack : Bool) → step c a s (Read nack) ≡ (quiet c, a, s)
+  passes-read a s nack = deaf-stays c a s (Read nack) sends-nothing
+
+  pub passes-stop : (a s : List ℕ) → step c a s Stop ≡ (quiet c, a, s)
+  unfolding step cycle.stop
+  passes-stop a s =
+      two-ways (step c a s Stop ≡ (quiet c, a, s))
+      (λ standby.
+      let ended : step c a s Stop ≡ (quiet (woken Standby (dropped c)), a, s) = rw standby in
+      ended ∙ ap (λ (d : Chip). (quiet d, a, s)) (ap (woken Standby) unpicked ∙ asleep standby))
+      (λ busy. rw busy)
+
+  -- a byte that it awaits: a busy chip takes no notice, and one on standby has been woken
+  hears-awaited : (phase : Phase) (a s : List ℕ) (byte : ℕ) (after : Stepped)
+      → (c .control .phase ≡ Standby → take (woken phase c) byte ≡ after) → (c .control .phase ≡ Busy → quiet c ≡ after)
+      → step (awaiting phase c) a s (Sent byte) ≡ (after, a, s)
+  unfolding step
+  hears-awaited phase a s byte after on-standby on-busy =
+      two-ways (step (awaiting phase c) a s (Sent byte) ≡ (after, a, s))
+      (λ standby. rw standby (ap (λ (x : Stepped). (x, a, s)) (on-standby standby)))
+      (λ busy.
+      let same : awaiting phase c ≡ c = rw busy in
+      ap (λ (d : Chip). step d a s (Sent byte)) same ∙ passes-byte a s byte ∙ ap (λ (x : Stepped). (x, a, s)) (on-busy busy))
+
+  passes : (phase : Phase) (a s : List ℕ) (byte : ℕ) → take (woken phase c) byte ≡ quiet (woken Standby c)
+      → step (awaiting phase c) a s (Sent byte) ≡ (quiet c, a, s)
+  passes phase a s byte is = hears-awaited phase a s byte (quiet c) (λ standby. is ∙ ap quiet (asleep standby)) (λ busy. refl)
+
+  pub hears-call : (a s : List ℕ)
+      → step (lifted AddressByte c) a s (Sent 0xF8) ≡ (record { chip = lifted ChoiceByte c; said = cond (isBusy (c .control .phase)) Nothing Ack }, a, s)
+  unfolding taking.take taking.loaded takeAddress callOf
+  hears-call a s =
+      hears-awaited AwaitsAddress a s 0xF8 _
+      (λ standby. rw standby (ap (λ (d : Chip). record { chip = woken AwaitsChoice d; said = Ack }) unpicked))
+      (λ busy. rw busy)
+
+  module _ (a s : List ℕ) (place : Place) (byte : ℕ)
+      (unshared : shareAddress (geometryOf (place .part)) (place .strap) (geometryOf (c .control .part)) (c .control .strap) ≡ false) where
+    pub passes-first : isFirstByte place byte ≡ true → step (lifted AddressByte c) a s (Sent byte) ≡ (quiet c, a, s)
+    unfolding taking.take taking.loaded takeAddress
+    passes-first is =
+        passes AwaitsAddress a s byte
+        (first-called c place unshared (λ (call : Call). heard (takeCall call (inPhase AwaitsAddress (c .control))) ≡ quiet (woken Standby c)) byte is
+        (rw unchosen)
+        (ap (λ (d : Chip). quiet (woken Standby d)) unpicked))
+      where
+        heard : Answered → Stepped
+        heard answered = record { chip = record { control = answered .control; load = load.emptied (c .load) }; said = answered .said }
+
+    pub passes-choice : isAddressOf 0b1010 place byte ≡ true → step (lifted ChoiceByte c) a s (Sent byte) ≡ (quiet c, a, s)
+    unfolding taking.take taking.loaded takeChoice
+    passes-choice is = passes AwaitsChoice a s byte (rw (address-for-nobody c place unshared 0b1010 byte (omega arith) is))
+
+  pub rest-clashes : (event : Event) → clashesWith event (c .control .phase) ≡ false
+  rest-clashes Start = refl
+  rest-clashes Stop = refl
+  rest-clashes (Sent byte) = sends-nothing
+  rest-clashes (Read nack) = takes-nothing
+  rest-clashes (Wp level) = refl
+  rest-clashes CycleOver = refl
+  rest-clashes PowerUp = refl
+
+  awaiting-sends-nothing : (phase : Phase) → isSending phase ≡ false → isSending (awaiting phase c .control .phase) ≡ false
+  awaiting-sends-nothing phase silent =
+      either (λ (d : Chip). isSending (d .control .phase) ≡ false) (isBusy (c .control .phase)) c (woken phase c) sends-nothing silent
+
+  pub lifted-sends-nothing : (next : Next) → isSending (lifted next c .control .phase) ≡ false
+  lifted-sends-nothing Anything = sends-nothing
+  lifted-sends-nothing AddressByte = awaiting-sends-nothing AwaitsAddress refl
+  lifted-sends-nothing ChoiceByte = awaiting-sends-nothing AwaitsChoice refl

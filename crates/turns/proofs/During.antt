@@ -1,0 +1,133 @@
+-- A turn of chip k in progress. The other chips are as they were when it began, but that they hear a Start and F8h and await the byte that
+-- follows at once; an event of the turn moves k as it moves it alone on the line.
+use Prim.Native.Nat.{ℕ, _<_, _≤_}
+use native.Mathlib.Decide.{decLt}
+use native.Mathlib.Omega.{arith}
+use mathlib.Core.Bool.{Bool, true, false, cond}
+use mathlib.Core.List.{List}
+use mathlib.Core.Path.{_≡_, _∙_, refl, sym, ap, subst}
+use lib.ListN.{length}
+use Rattle.base.proofs.test.Laws.{either}
+use Rattle.control.specs.declared.Said.{Said}
+use Rattle.control.specs.declared.Said.the-variants.{Nothing}
+use Rattle.control.specs.declared.phase.Phase.{Phase}
+use Rattle.control.specs.Phase.{isSending}
+use Rattle.chip.specs.declared.Chip.{Chip}
+use Rattle.chip.specs.declared.Stepped.{Stepped}
+use Rattle.chip.specs.Chip.{quiet}
+use Rattle.chip.specs.Chip as chip
+use Rattle.order.specs.declared.Order.{Order}
+use Rattle.order.specs.Order.{reaches, eventOf}
+use Rattle.order.specs.Hearing.{clashesWith}
+use Rattle.lineup.specs.Chips.{chipAt, controlAt, placesOf}
+use Rattle.line.specs.Line.{clash}
+use Rattle.bus.specs.Step.{step}
+use Rattle.promises.specs.Own.{own}
+use Rattle.turns.specs.Turn.{Next, Anything, AddressByte, ChoiceByte}
+use Rattle.turns.specs.Alone.{World, alone, renamed}
+use Rattle.turns.specs.Playing.{afterOne, answerTo}
+use Rattle.turns.proofs.Asked.{Asked}
+use Rattle.turns.proofs.Alone.{onlyBus}
+use Rattle.turns.proofs.Stepping.{Entering, ledTo, entering-kept, step-clashes, count-kept, board-kept, rest-kept, each-moves}
+use Rattle.turns.proofs.Event.{clash-is-its-own, alone-moves, answers-alike}
+use Rattle.turns.proofs.Bystander.{lifted}
+use Rattle.turns.proofs.Resting.{marks-kept, isHeeding}
+
+-- where a byte must follow at once, chip k does not send
+abbrev pub Heeds : Next → Phase → Type 0
+Heeds Anything phase = Unit {0}
+Heeds AddressByte phase = isHeeding phase ≡ true
+Heeds ChoiceByte phase = isSending phase ≡ false
+
+pub record During (k : ℕ) (next : Next) (began now : World) : Type 0 where
+  pub entering : Entering now
+  pub marks : (i : ℕ) → i < 4 → length (chipAt (now .0 .chips) i .load .marks) ≡ 256
+  pub count : now .0 .count ≡ began .0 .count
+  pub board : placesOf (now .0 .chips) ≡ placesOf (began .0 .chips)
+  pub rest : (i : ℕ) → began .0 .count ≤ i → chipAt (now .0 .chips) i ≡ chipAt (began .0 .chips) i
+  pub heeds : Heeds next (controlAt (now .0 .chips) k .phase)
+  pub others : (j : ℕ) → j < began .0 .count → (j ≡ k → ⊥)
+      → alone j now ≡ (onlyBus (lifted next (chipAt (began .0 .chips) j)), alone j began .1, alone j began .2)
+
+-- what chip j makes of an event, of its own world
+abbrev pub takes : Order → ℕ → World → Stepped × List ℕ × List ℕ
+takes order j world =
+    cond (reaches order j) (chip.step (chipAt (world .0 .chips) 0) (world .1) (world .2) (eventOf order)) (quiet (chipAt (world .0 .chips) 0), world .1, world .2)
+
+-- another chip sits through an event of the turn
+abbrev pub SitsThrough : Order → Next → Next → (Chip → Said) → ℕ → World → Type 0
+SitsThrough order next next′ says j began =
+    let c = chipAt (began .0 .chips) j in
+    (clashesWith (eventOf order) (lifted next c .control .phase) ≡ false)
+    × (takes order j (onlyBus (lifted next c), alone j began .1, alone j began .2) ≡ (record { chip = lifted next′ c; said = says c }, alone j began .1, alone j began .2))
+
+module _ (k : ℕ) (next next′ : Next) (began now : World) (d : During k next began now) (below : k < began .0 .count) (word : ℕ) (order : Order) (asked : Asked (now .0 .count) word order) (reached : reaches order k ≡ true) (says : Chip → Said)
+    (sit : (j : ℕ) → j < began .0 .count → (j ≡ k → ⊥) → SitsThrough order next next′ says j began) where
+  abbrev chips : List Chip
+  chips = now .0 .chips
+
+  abbrev taken : Stepped × List ℕ × List ℕ
+  taken = chip.step (chipAt chips k) (alone k now .1) (alone k now .2) (eventOf order)
+
+  below-now : k < now .0 .count
+  below-now = omega (arith, below, d .count)
+
+  unclashing : (j : ℕ) → j < now .0 .count → (j ≡ k → ⊥) → clashesWith (eventOf order) (controlAt chips j .phase) ≡ false
+  unclashing j before differ =
+      let there : j < began .0 .count = omega (arith, before, d .count) in
+      ap (λ (w : World). clashesWith (eventOf order) (controlAt (w .0 .chips) 0 .phase)) (d .others j there differ) ∙ sit j there differ .0
+
+  -- what another chip has made of it
+  sat : (j : ℕ) → j < began .0 .count → (j ≡ k → ⊥)
+      → own order chips (now .1) (now .2) j ≡ (record { chip = lifted next′ (chipAt (began .0 .chips) j); said = says (chipAt (began .0 .chips) j) }, alone j began .1, alone j began .2)
+  sat j before differ = ap (takes order j) (d .others j before differ) ∙ sit j before differ .1
+
+  pub turn-clash : clash (eventOf order) (now .0 .count) (now .0 .chips) ≡ clashesWith (eventOf order) (controlAt (now .0 .chips) k .phase)
+  turn-clash = clash-is-its-own now (d .entering) k below-now word order asked reached unclashing
+
+  pub turn-moves : alone k (afterOne step now word) ≡ afterOne step (alone k now) (renamed word)
+  turn-moves = alone-moves now (d .entering) k below-now word order asked reached unclashing
+
+  pub turn-answers : ((c : Chip) → says c ≡ Nothing) → answerTo step now word ≡ answerTo step (alone k now) (renamed word)
+  turn-answers silent =
+      answers-alike now (d .entering) k below-now word order asked reached unclashing λ is j before differ.
+      ap (λ (x : Stepped × List ℕ × List ℕ). x .0 .said) (sat j (omega (arith, before, d .count)) differ) ∙ silent _
+
+  -- k itself has made its own step
+  pub turn-taken : clash (eventOf order) (now .0 .count) (now .0 .chips) ≡ false → chipAt (afterOne step now word .0 .chips) k ≡ taken .0 .chip
+  turn-taken is =
+      ap (λ (w : World). chipAt (w .0 .chips) 0) (each-moves now word order (d .entering) (asked .0) is k below-now) ∙ rw reached
+
+  marks-after : clash (eventOf order) (now .0 .count) chips ≡ false → (i : ℕ) → i < 4 → length (chipAt (afterOne step now word .0 .chips) i .load .marks) ≡ 256
+  marks-after is i four = go (decLt i (now .0 .count))
+    where
+      go : Dec (i < now .0 .count) → length (chipAt (afterOne step now word .0 .chips) i .load .marks) ≡ 256
+      go (yes p) =
+          ap (λ (w : World). length (chipAt (w .0 .chips) 0 .load .marks)) (each-moves now word order (d .entering) (asked .0) is i p)
+          ∙ either (λ (x : Stepped × List ℕ × List ℕ). length (x .0 .chip .load .marks) ≡ 256) (reaches order i) _ _
+          (marks-kept (chipAt chips i) (alone i now .1) (alone i now .2) (eventOf order) (d .marks i four))
+          (d .marks i four)
+      go (no p) = ap (λ (c : Chip). length (c .load .marks)) (rest-kept now word order (d .entering) (asked .0) i (omega arith)) ∙ d .marks i four
+
+  -- refused it may be only where the next event may be anything
+  pub turn-goes-on : (clash (eventOf order) (now .0 .count) (now .0 .chips) ≡ true → next ≡ next′)
+      → (clash (eventOf order) (now .0 .count) (now .0 .chips) ≡ false → Heeds next′ (taken .0 .chip .control .phase))
+      → During k next′ began (afterOne step now word)
+  turn-goes-on refusable heeding = go (clash (eventOf order) (now .0 .count) chips) refl
+    where
+      go : (b : Bool) → clash (eventOf order) (now .0 .count) chips ≡ b → During k next′ began (afterOne step now word)
+      go true is =
+          subst (λ (n : Next). During k n began (afterOne step now word)) (refusable is)
+          (subst (λ (w : World). During k next began w) (sym (ap ledTo (step-clashes now word order (d .entering) (asked .0) is))) d)
+      go false is =
+          record {
+            entering = entering-kept now word (d .entering);
+            marks = marks-after is;
+            count = count-kept now word order (d .entering) (asked .0) ∙ d .count;
+            board = board-kept now word order (d .entering) (asked .0) ∙ d .board;
+            rest = λ i past. rest-kept now word order (d .entering) (asked .0) i (omega (arith, past, d .count)) ∙ d .rest i past;
+            heeds = subst (λ (c : Chip). Heeds next′ (c .control .phase)) (sym (turn-taken is)) (heeding is);
+            others = λ j before differ.
+                each-moves now word order (d .entering) (asked .0) is j (omega (arith, before, d .count))
+                ∙ ap (λ (x : Stepped × List ℕ × List ℕ). (onlyBus (x .0 .chip), x .1, x .2)) (sat j before differ);
+          }

@@ -1,0 +1,136 @@
+-- One event of chip k's turn, on the line and renamed on a line of k alone. Where no other chip clashes with it, it is refused on both or
+-- on neither; k takes it alike; and where no other chip says anything, the answers are the same.
+use Prim.Native.Nat.{ℕ, _<_}
+use native.Mathlib.Omega.{arith}
+use mathlib.Core.Bool.{Bool, true, false, or-false}
+use mathlib.Core.List.{List}
+use mathlib.Core.Path.{_≡_, _∙_, refl, sym, ap}
+use lib.Dec.{eqb}
+use borrow.Author.Tests.{eqb-true, eqb-false}
+use Rattle.base.specs.Fold.{upTo, anyBelow}
+use Rattle.base.proofs.Fold.{any-at, none-any}
+use Rattle.control.specs.declared.Said.{Said}
+use Rattle.control.specs.declared.Said.the-variants.{Nothing, Ack, Byte}
+use Rattle.chip.specs.declared.Chip.{Chip}
+use Rattle.chip.specs.declared.event.Event.{Event}
+use Rattle.chip.specs.declared.Stepped as chips-own
+use Rattle.chip.specs.Chip as chip
+use Rattle.refusal.specs.Refusal.{answerWord}
+use Rattle.refusal.specs.declared.Answer.the-variants as answer
+use Rattle.board.specs.Place.{placed}
+use Rattle.order.specs.declared.Order.{Order}
+use Rattle.order.specs.declared.Order.the-variants.{ToAll, ToOne}
+use Rattle.order.specs.Order.{reaches, eventOf}
+use Rattle.order.specs.Hearing.{clashesWith}
+use Rattle.lineup.specs.Chips.{chipAt, controlAt}
+use Rattle.line.specs.declared.Played.{Played}
+use Rattle.line.specs.Line.{heard, clash, play, lineReply}
+use Rattle.bus.specs.declared.Stepped.{Stepped}
+use Rattle.bus.specs.Step.{played, step}
+use Rattle.bus.proofs.Entry.{Entered, entered}
+use Rattle.promises.specs.Own.{own, gathered}
+use Rattle.promises.proofs.Chips.{answer-is-gathered}
+use Rattle.promises.proofs.Replies.{one-speaks}
+use Rattle.turns.specs.Alone.{World, alone, renamed}
+use Rattle.turns.specs.Playing.{stepped, afterOne, answerTo}
+use Rattle.turns.proofs.Asked.{only, Asked}
+use Rattle.turns.proofs.Alone.{onlyBus, alone-plays, shares-fit, alone-enters}
+use Rattle.turns.proofs.Stepping.{Entering, ledTo, step-clashes, step-plays, each-moves}
+
+event-only : (order : Order) → eventOf (only order) ≡ eventOf order
+event-only (ToAll event) = refl
+event-only (ToOne named event) = refl
+
+reaches-only : (order : Order) → reaches (only order) 0 ≡ true
+reaches-only (ToAll event) = refl
+reaches-only (ToOne named event) = refl
+
+-- a test of some index, where it holds of one at most
+any-one : (test : ℕ → Bool) (n k : ℕ) → k < n → ((j : ℕ) → j < n → (j ≡ k → ⊥) → test j ≡ false) → anyBelow test n ≡ test k
+any-one test n k below others = go (test k) refl
+  where
+    at : (j : ℕ) → j < n → (same : Bool) → eqb j k ≡ same → test k ≡ false → test j ≡ false
+    at j before true is none = rw (eqb-true j k is) none
+    at j before false is none = others j before (eqb-false j k is)
+
+    go : (here : Bool) → test k ≡ here → anyBelow test n ≡ here
+    go true is = any-at test n k below is
+    go false is = none-any test n (λ j before. at j before (eqb j k) refl is)
+
+after-silence : (said : Said) → heard Nothing said ≡ said
+after-silence Nothing = refl
+after-silence Ack = refl
+after-silence (Byte byte) = refl
+
+module _ (world : World) (e : Entering world) (k : ℕ) (below : k < world .0 .count) (word : ℕ) (order : Order) (asked : Asked (world .0 .count) word order) (reached : reaches order k ≡ true) (unclashing : (j : ℕ) → j < world .0 .count → (j ≡ k → ⊥) → clashesWith (eventOf order) (controlAt (world .0 .chips) j .phase) ≡ false) where
+  abbrev count : ℕ
+  count = world .0 .count
+
+  abbrev chips : List Chip
+  chips = world .0 .chips
+
+  abbrev c : Chip
+  c = chipAt chips k
+
+  abbrev taken : chips-own.Stepped × List ℕ × List ℕ
+  taken = chip.step c (alone k world .1) (alone k world .2) (eventOf order)
+
+  entry : Entered (world .0) (world .1) (world .2)
+  entry = entered (world .0) (world .1) (world .2) (e .enters)
+
+  by-itself : Entering (alone k world)
+  by-itself = record { four = refl; enters = alone-enters world (e .enters) k below }
+
+  -- refusal 8 is k's own, on both
+  pub clash-is-its-own : clash (eventOf order) (world .0 .count) (world .0 .chips) ≡ clashesWith (eventOf order) (controlAt (world .0 .chips) k .phase)
+  clash-is-its-own =
+      any-one (λ (i : ℕ). clashesWith (eventOf order) (controlAt chips i .phase)) (placed count) k (omega (arith, entry .all-placed))
+      (λ j before. unclashing j (omega (arith, entry .all-placed)))
+
+  clash-alone : clash (eventOf (only order)) 1 (onlyBus c .chips) ≡ clash (eventOf order) count chips
+  unfolding upTo
+  clash-alone = rw (event-only order) (or-false _ ∙ sym clash-is-its-own)
+
+  -- played, k has made its own step
+  line-plays : clash (eventOf order) count chips ≡ false → alone k (afterOne step world word) ≡ (onlyBus (taken .0 .chip), taken .1, taken .2)
+  line-plays is = each-moves world word order e (asked .0) is k below ∙ rw reached
+
+  only-plays : clash (eventOf order) count chips ≡ false → stepped step (alone k world) (renamed word) ≡ played (only order) (alone k world .0) (alone k world .1) (alone k world .2)
+  only-plays is = step-plays (alone k world) (renamed word) (only order) by-itself (asked .1) (clash-alone ∙ is)
+
+  alone-played : play (only order) 1 (onlyBus c .chips) (alone k world .1) (alone k world .2) ≡ (record { chips = onlyBus (taken .0 .chip) .chips; said = taken .0 .said }, taken .1, taken .2)
+  alone-played =
+      alone-plays (only order) c (alone k world .1) (alone k world .2) (shares-fit world (e .enters) k below) (reaches-only order)
+      ∙ rw (event-only order, after-silence (taken .0 .said))
+
+  pub alone-moves : alone k (afterOne step world word) ≡ afterOne step (alone k world) (renamed word)
+  unfolding played
+  alone-moves = go (clash (eventOf order) count chips) refl
+    where
+      go : (b : Bool) → clash (eventOf order) count chips ≡ b → alone k (afterOne step world word) ≡ afterOne step (alone k world) (renamed word)
+      go true is =
+          ap (λ (next : Stepped × List ℕ × List ℕ). alone k (ledTo next)) (step-clashes world word order e (asked .0) is)
+          ∙ sym (ap ledTo (step-clashes (alone k world) (renamed word) (only order) by-itself (asked .1) (clash-alone ∙ is)))
+      go false is = line-plays is ∙ sym (ap ledTo (only-plays is) ∙ rw alone-played)
+
+  -- where no other chip says anything, k is heard
+  pub answers-alike : (clash (eventOf order) (world .0 .count) (world .0 .chips) ≡ false → (j : ℕ) → j < world .0 .count → (j ≡ k → ⊥) → own order (world .0 .chips) (world .1) (world .2) j .0 .said ≡ Nothing)
+      → answerTo step world word ≡ answerTo step (alone k world) (renamed word)
+  unfolding played
+  answers-alike silent = go (clash (eventOf order) count chips) refl
+    where
+      heard-alone : clash (eventOf order) count chips ≡ false → play order count chips (world .1) (world .2) .0 .said ≡ taken .0 .said
+      heard-alone is =
+          answer-is-gathered order count chips (world .1) (world .2) (e .four) (entry .array-fits) (entry .security-fits)
+          ∙ one-speaks (λ (i : ℕ). own order chips (world .1) (world .2) i .0 .said) (placed count) k (omega (arith, entry .all-placed))
+          (λ j before differ. silent is j (omega (arith, entry .all-placed)) differ)
+          ∙ rw reached
+
+      go : (b : Bool) → clash (eventOf order) count chips ≡ b → answerTo step world word ≡ answerTo step (alone k world) (renamed word)
+      go true is =
+          ap (λ (next : Stepped × List ℕ × List ℕ). answerWord (next .0 .answer)) (step-clashes world word order e (asked .0) is)
+          ∙ sym (ap (λ (next : Stepped × List ℕ × List ℕ). answerWord (next .0 .answer)) (step-clashes (alone k world) (renamed word) (only order) by-itself (asked .1) (clash-alone ∙ is)))
+      go false is =
+          ap (λ (next : Stepped × List ℕ × List ℕ). answerWord (next .0 .answer)) (step-plays world word order e (asked .0) is)
+          ∙ ap (λ (said : Said). answerWord (answer.Done (lineReply (eventOf order) said))) (heard-alone is)
+          ∙ sym (ap (λ (next : Stepped × List ℕ × List ℕ). answerWord (next .0 .answer)) (only-plays is) ∙ rw (event-only order, alone-played))

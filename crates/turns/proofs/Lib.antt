@@ -1,0 +1,16 @@
+mod Asked
+pub mod Alone
+mod Stepping
+mod Event
+mod Bystander
+mod Resting
+mod During
+mod Others
+mod Turn
+pub mod Whole
+mod Lists
+mod Same
+pub mod Turns
+pub mod Acknowledged
+pub mod Undisturbed
+pub mod Ran

@@ -1,0 +1,81 @@
+-- The chips beside k when its turn begins, and how each of them sits through each event of the turn.
+use Prim.Native.Nat.{ℕ, _<_}
+use mathlib.Core.Bool.{Bool, true, false, cond}
+use mathlib.Core.List.{List}
+use mathlib.Core.Path.{_≡_, refl}
+use lib.ListN.{length}
+use borrow.Author.Tests.{ne-eqb}
+use Rattle.parts.specs.Part.{geometryOf}
+use Rattle.parts.specs.Address.{shareAddress}
+use Rattle.control.specs.declared.Said.{Said}
+use Rattle.control.specs.declared.Said.the-variants.{Nothing, Ack}
+use Rattle.control.specs.Phase.{isBusy}
+use Rattle.chip.specs.declared.Chip.{Chip}
+use Rattle.chip.specs.declared.event.Event.{Event}
+use Rattle.chip.specs.declared.event.Event.the-variants.{Start, Stop, Sent, Read}
+use Rattle.board.specs.declared.Place.{Place}
+use Rattle.order.specs.declared.Order.the-variants.{ToAll, ToOne}
+use Rattle.lineup.specs.Chips.{chipAt, controlAt}
+use Rattle.turns.specs.Idle.{isAtRest}
+use Rattle.turns.specs.Turn.{Anything, AddressByte, ChoiceByte, isAddressOf, isFirstByte}
+use Rattle.turns.specs.Alone.{World, alone}
+use Rattle.turns.proofs.Bystander.{hears-start, hears-call, passes-first, passes-choice, passes-byte, passes-read, passes-stop, rest-clashes, lifted-sends-nothing}
+use Rattle.turns.proofs.During.{SitsThrough}
+
+-- what they say to most events, and to F8h
+abbrev pub silent : Chip → Said
+silent c = Nothing
+
+abbrev pub called : Chip → Said
+called c = cond (isBusy (c .control .phase)) Nothing Ack
+
+-- the chips beside k when its turn begins: at rest, with marks, and no address byte of k is theirs
+pub record Others (k : ℕ) (place : Place) (began : World) : Type 0 where
+  pub below : k < began .0 .count
+  pub at-rest : (j : ℕ) → j < began .0 .count → isAtRest (chipAt (began .0 .chips) j) ≡ true
+  pub marked : (j : ℕ) → j < began .0 .count → length (chipAt (began .0 .chips) j .load .marks) ≡ 256
+  pub unshared : (j : ℕ) → j < began .0 .count → (j ≡ k → ⊥)
+      → let c = controlAt (began .0 .chips) j in shareAddress (geometryOf (place .part)) (place .strap) (geometryOf (c .part)) (c .strap) ≡ false
+
+-- how each event of the turn is sat through
+module _ (k : ℕ) (place : Place) (began : World) (b : Others k place began) (j : ℕ) (before : j < began .0 .count) (differ : j ≡ k → ⊥) where
+  abbrev c : Chip
+  c = chipAt (began .0 .chips) j
+
+  abbrev a : List ℕ
+  a = alone j began .1
+
+  abbrev s : List ℕ
+  s = alone j began .2
+
+  rest : isAtRest c ≡ true
+  rest = b .at-rest j before
+
+  marks : length (c .load .marks) ≡ 256
+  marks = b .marked j before
+
+  pub sits-start : SitsThrough (ToAll Start) Anything AddressByte silent j began
+  sits-start = (refl, hears-start c a s)
+
+  pub sits-stop : SitsThrough (ToAll Stop) Anything Anything silent j began
+  sits-stop = (refl, passes-stop c rest marks a s)
+
+  pub sits-byte : (byte : ℕ) → SitsThrough (ToAll (Sent byte)) Anything Anything silent j began
+  sits-byte byte = (lifted-sends-nothing c rest marks Anything, passes-byte c rest marks a s byte)
+
+  pub sits-read : (nack : Bool) → SitsThrough (ToAll (Read nack)) Anything Anything silent j began
+  sits-read nack = (rest-clashes c rest marks (Read nack), passes-read c rest marks a s nack)
+
+  pub sits-named : (event : Event) → SitsThrough (ToOne k event) Anything Anything silent j began
+  sits-named event = (rest-clashes c rest marks event, rw (ne-eqb j k differ))
+
+  pub sits-first : (byte : ℕ) → isFirstByte place byte ≡ true → SitsThrough (ToAll (Sent byte)) AddressByte Anything silent j began
+  sits-first byte is =
+      (lifted-sends-nothing c rest marks AddressByte, passes-first c rest marks a s place byte (b .unshared j before differ) is)
+
+  pub sits-call : SitsThrough (ToAll (Sent 0xF8)) AddressByte ChoiceByte called j began
+  sits-call = (lifted-sends-nothing c rest marks AddressByte, hears-call c rest marks a s)
+
+  pub sits-choice : (byte : ℕ) → isAddressOf 0b1010 place byte ≡ true → SitsThrough (ToAll (Sent byte)) ChoiceByte Anything silent j began
+  sits-choice byte is =
+      (lifted-sends-nothing c rest marks ChoiceByte, passes-choice c rest marks a s place byte (b .unshared j before differ) is)

@@ -1,0 +1,183 @@
+-- Any chip: a Stop leaves it at rest, and so does an event that names it where it was at rest; a Start, and F8h behind it, leave it sending
+-- nothing; and its marks stay as many.
+use Prim.Native.Nat.{ℕ, _%_}
+use mathlib.Core.Bool.{Bool, true, false, cond, not, _&&_, _||_, false≢true}
+use mathlib.Core.List.{List}
+use mathlib.Core.Path.{_≡_, _∙_, refl}
+use lib.ListN.{length, length-set, length-replicate}
+use Rattle.base.proofs.test.Laws.{either}
+use Rattle.base.proofs.Fold.{and-left, and-right, or-right}
+use Rattle.parts.specs.Part.{geometryOf}
+use Rattle.load.specs.declared.Load.{Load}
+use Rattle.load.specs.Load as load
+use Rattle.load.proofs.Laws.{within-emptied}
+use Rattle.control.specs.declared.Control.{Control}
+use Rattle.control.specs.declared.Said.the-variants.{Nothing, Ack}
+use Rattle.control.specs.declared.phase.Phase.{Phase}
+use Rattle.control.specs.declared.phase.Phase.the-variants.{Standby, Busy, AwaitsAddress, AwaitsChoice, AwaitsWord, TakesData, SendsByte}
+use Rattle.control.specs.declared.phase.Data.{Data}
+use Rattle.control.specs.declared.phase.Data.the-variants.{ToArray, ToSecurity, ToConfiguration, ToLock, ToNowhere}
+use Rattle.control.specs.declared.phase.Came.{Came}
+use Rattle.control.specs.declared.phase.Came.the-variants.{Zero, One, Two, Three, More}
+use Rattle.control.specs.Phase.{isBusy, isSending, isTaking, awaitsAddress}
+use Rattle.control.specs.Control.{inPhase, lockedNow, configured}
+use Rattle.control.specs.Exchange.{ended, started}
+use Rattle.control.specs.Bits.{lock}
+use Rattle.configuration.specs.Configuration.{confirms, stopConfiguration}
+use Rattle.addressing.specs.Address.{callOf, takeAddress}
+use Rattle.taking.specs.Taking as taking
+use Rattle.cycle.specs.Stop.{writesArray, writesSecurity, stopData, stop}
+use Rattle.chip.specs.declared.Chip.{Chip}
+use Rattle.chip.specs.declared.event.Event.{Event}
+use Rattle.chip.specs.declared.event.Event.the-variants.{Start, Stop, Sent, Read, Wp, CycleOver, PowerUp}
+use Rattle.chip.specs.Chip.{step}
+use Rattle.wellformed.specs.Wellformed.{isSetUp, countersFit, placeFits, unusedBitsClear, busyNotChosen, controlFits, loadMost, wellFormed}
+use Rattle.keeping.proofs.Beside.{isNamed}
+use Rattle.turns.specs.Idle.{isAtRest}
+use Rattle.turns.proofs.Bystander.{woken}
+
+-- a Stop ends the exchange without a cycle or with one, and the load is gone
+module _ (held : Load) where
+  abbrev Rests : Control → Type 0
+  Rests c = isAtRest (record { control = c; load = load.emptied held }) ≡ true
+
+  ended-rests : (c : Control) → Rests (ended c)
+  ended-rests c = rw (within-emptied 0 held)
+
+  started-rests : (c : Control) → Rests (started c)
+  started-rests c = rw (within-emptied 0 held)
+
+  came-rests : (came : Came) (c : Control) → Rests (stopConfiguration came c)
+  came-rests Zero c = ended-rests c
+  came-rests (One first) c = ended-rests c
+  came-rests (Two first second) c = ended-rests c
+  came-rests (Three first second third) c =
+      either Rests (confirms first third && not (lock c)) _ _ (started-rests (configured (first % 4) second c)) (ended-rests c)
+  came-rests More c = ended-rests c
+
+  data-rests : (kind : Data) (c : Control) (a s : List ℕ) → Rests (stopData kind c held a s .0)
+  data-rests ToArray c a s = either (λ (x : Control × List ℕ). Rests (x .0)) (writesArray c held) _ _ (started-rests c) (ended-rests c)
+  data-rests ToSecurity c a s = either (λ (x : Control × List ℕ). Rests (x .0)) (writesSecurity c held) _ _ (started-rests c) (ended-rests c)
+  data-rests (ToConfiguration came) c a s = came-rests came c
+  data-rests (ToLock some) c a s = either Rests (some && not (c .locked)) _ _ (started-rests (lockedNow c)) (ended-rests c)
+  data-rests ToNowhere c a s = ended-rests c
+
+-- a busy chip takes no notice, but it is not chosen and holds no load
+pub stop-rests : (c : Chip) (a s : List ℕ) → wellFormed c ≡ true → isAtRest (step c a s Stop .0 .chip) ≡ true
+unfolding step stop wellFormed
+stop-rests c a s formed = go (c .control .phase) refl
+  where
+    empty : load.within (loadMost (c .control)) (c .load) ≡ true
+    empty = and-right (controlFits (c .control)) _ formed
+
+    unchosen : busyNotChosen (c .control) ≡ true
+    unchosen =
+        and-right (unusedBitsClear (c .control) && placeFits (c .control .phase)) _
+        (and-right (isSetUp (c .control) && countersFit (c .control)) _ (and-left _ _ formed))
+
+    over : Rests (c .load) (ended (c .control))
+    over = ended-rests (c .load) (c .control)
+
+    go : (phase : Phase) → c .control .phase ≡ phase → isAtRest (step c a s Stop .0 .chip) ≡ true
+    go Standby is = rw is over
+    go Busy is = rw (is, rw is at empty, rw is at unchosen)
+    go AwaitsAddress is = rw is over
+    go AwaitsChoice is = rw is over
+    go (AwaitsWord word) is = rw is over
+    go (TakesData kind) is = rw is (data-rests (c .load) kind (inPhase (TakesData kind) (c .control)) a s)
+    go (SendsByte source) is = rw is over
+
+pub named-rests : (c : Chip) (a s : List ℕ) (event : Event) → isNamed event ≡ true → isAtRest c ≡ true → isAtRest (step c a s event .0 .chip) ≡ true
+unfolding step
+named-rests c a s Start named rest = absurd (false≢true named)
+named-rests c a s Stop named rest = absurd (false≢true named)
+named-rests c a s (Sent byte) named rest = absurd (false≢true named)
+named-rests c a s (Read nack) named rest = absurd (false≢true named)
+named-rests c a s (Wp level) named rest = rest
+named-rests c a s CycleOver named rest =
+    either (λ (d : Chip). isAtRest d ≡ true) (isBusy (c .control .phase)) _ c
+    (and-right (not (isSending (c .control .phase)) && not (isTaking (c .control .phase))) _ rest)
+    rest
+named-rests c a s PowerUp named rest = absurd (false≢true named)
+
+-- a load has a place for each byte of the longest page, marked or not
+module _ (c : Chip) (a s : List ℕ) (long : length (c .load .marks) ≡ 256) where
+  abbrev Long : Load → Type 0
+  Long held = length (held .marks) ≡ 256
+
+  emptied-long : Long (load.emptied (c .load))
+  emptied-long = length-replicate 256 false
+
+  put-long : (at byte : ℕ) → Long (load.put (geometryOf (c .control .part)) at byte (c .load))
+  put-long at byte = length-set (c .load .marks) _ true ∙ long
+
+  data-long : (kind : Data) (byte : ℕ) → Long (taking.loadedData kind (c .load) (c .control) byte)
+  data-long ToArray byte = put-long (c .control .array) byte
+  data-long ToSecurity byte = put-long (c .control .security) byte
+  data-long (ToConfiguration came) byte = long
+  data-long (ToLock some) byte = either Long (c .control .locked) _ (c .load) emptied-long long
+  data-long ToNowhere byte = long
+
+  loaded-long : (phase : Phase) (byte : ℕ) → Long (taking.loadedIn phase (c .load) (c .control) byte)
+  loaded-long Standby byte = long
+  loaded-long Busy byte = long
+  loaded-long AwaitsAddress byte = long
+  loaded-long AwaitsChoice byte = long
+  loaded-long (AwaitsWord word) byte = long
+  loaded-long (TakesData kind) byte = data-long kind byte
+  loaded-long (SendsByte source) byte = long
+
+  unless-busy : (x y : Chip) → Long (x .load) → Long (y .load) → Long (cond (isBusy (c .control .phase)) x y .load)
+  unless-busy x y = either (λ (d : Chip). Long (d .load)) (isBusy (c .control .phase)) x y
+
+  long-after : (event : Event) → Long (step c a s event .0 .chip .load)
+  unfolding step taking.loaded
+  long-after Start = unless-busy c _ long emptied-long
+  long-after Stop = either (λ (x : Chip × List ℕ × List ℕ). Long (x .0 .load)) (isBusy (c .control .phase)) (c, a, s) _ long emptied-long
+  long-after (Sent byte) = loaded-long (c .control .phase) byte
+  long-after (Read nack) = long
+  long-after (Wp level) = long
+  long-after CycleOver = unless-busy _ c long long
+  long-after PowerUp = emptied-long
+
+pub marks-kept : (c : Chip) (a s : List ℕ) (event : Event) → length (c .load .marks) ≡ 256 → length (step c a s event .0 .chip .load .marks) ≡ 256
+marks-kept c a s event long = long-after c a s long event
+
+-- a chip awaits an address byte or is busy: so after a Start, and then F8h leaves it sending nothing
+abbrev pub isHeeding : Phase → Bool
+isHeeding phase = awaitsAddress phase || isBusy phase
+
+pub start-heeds : (c : Chip) (a s : List ℕ) → isHeeding (step c a s Start .0 .chip .control .phase) ≡ true
+unfolding step
+start-heeds c a s = go (isBusy (c .control .phase)) refl
+  where
+    go : (busy : Bool) → isBusy (c .control .phase) ≡ busy → isHeeding (cond busy c (woken AwaitsAddress c) .control .phase) ≡ true
+    go true is = or-right (awaitsAddress (c .control .phase)) _ is
+    go false is = refl
+
+heeds : (phase : Phase) → isHeeding phase ≡ true → (P : Phase → Type 0) → P AwaitsAddress → P Busy → P phase
+heeds Standby heeding P address busy = absurd (false≢true heeding)
+heeds Busy heeding P address busy = busy
+heeds AwaitsAddress heeding P address busy = address
+heeds AwaitsChoice heeding P address busy = absurd (false≢true heeding)
+heeds (AwaitsWord word) heeding P address busy = absurd (false≢true heeding)
+heeds (TakesData kind) heeding P address busy = absurd (false≢true heeding)
+heeds (SendsByte source) heeding P address busy = absurd (false≢true heeding)
+
+pub heeding-sends-nothing : (phase : Phase) → isHeeding phase ≡ true → isSending phase ≡ false
+heeding-sends-nothing phase heeding = heeds phase heeding (λ (p : Phase). isSending p ≡ false) refl refl
+
+module _ (c : Chip) (a s : List ℕ) (heeding : isHeeding (c .control .phase) ≡ true) where
+  pub call-heeds : isSending (step c a s (Sent 0xF8) .0 .chip .control .phase) ≡ false
+  unfolding step taking.take takeAddress callOf
+  call-heeds =
+      heeds (c .control .phase) heeding (λ (p : Phase). isSending (taking.takeIn p (c .control) 0xF8 .control .phase) ≡ false)
+      refl
+      (heeding-sends-nothing (c .control .phase) heeding)
+
+  pub call-said : step c a s (Sent 0xF8) .0 .said ≡ cond (isBusy (c .control .phase)) Nothing Ack
+  unfolding step taking.take takeAddress callOf
+  call-said =
+      heeds (c .control .phase) heeding (λ (p : Phase). taking.takeIn p (c .control) 0xF8 .said ≡ cond (isBusy p) Nothing Ack)
+      refl
+      refl

@@ -1,0 +1,112 @@
+-- A step of an event that passes 6 and 7, on a bus that passes 10 and 5: only 8 is left to refuse it. Refused it leaves all; played it
+-- moves each chip by itself.
+use Prim.Native.Nat.{ℕ, _<_, _≤_}
+use native.Mathlib.Omega.{arith}
+use mathlib.Core.Bool.{Bool, true, false, cond}
+use mathlib.Core.List.{List}
+use mathlib.Core.Path.{_≡_, _∙_, refl, ap}
+use lib.ListN.{length}
+use Rattle.chip.specs.declared.Chip.{Chip}
+use Rattle.refusal.specs.declared.Refusal.the-variants.{Clash}
+use Rattle.refusal.specs.declared.Verdict.{Verdict}
+use Rattle.refusal.specs.declared.Verdict.the-variants.{Passed, Refused}
+use Rattle.refusal.specs.Checks.{firstOf}
+use Rattle.board.specs.declared.Place.{Place}
+use Rattle.order.specs.declared.Order.{Order}
+use Rattle.order.specs.Order.{eventOf}
+use Rattle.lineup.specs.Chips.{chipAt, placesOf}
+use Rattle.line.specs.Line.{clash, play}
+use Rattle.bus.specs.declared.Stepped.{Stepped}
+use Rattle.bus.specs.Step.{entryChecks, eventChecks, refused, played, stepBy, event, step}
+use Rattle.bus.proofs.Entry.{Entered, entered}
+use Rattle.promises.specs.Own.{own}
+use Rattle.promises.proofs.Chips.{each-chip-takes-its-own, the-rest-stays}
+use Rattle.promises.proofs.Kept.{places-kept, entry-kept}
+use Rattle.promises.proofs.Runs.{step-is-event}
+use Rattle.turns.specs.Alone.{World, alone}
+use Rattle.turns.specs.Playing.{stepped, afterOne}
+use Rattle.turns.proofs.Asked.{Legal}
+use Rattle.turns.proofs.Alone.{onlyBus}
+
+-- four places, and the checks at entry pass
+pub record Entering (world : World) : Type 0 where
+  pub four : length (world .0 .chips) ≡ 4
+  pub enters : firstOf (entryChecks (world .0) (world .1) (world .2)) ≡ Passed
+
+-- where a step has led
+abbrev pub ledTo : Stepped × List ℕ × List ℕ → World
+ledTo next = (next .0 .bus, next .1, next .2)
+
+pub entering-kept : (world : World) (word : ℕ) → Entering world → Entering (afterOne step world word)
+entering-kept world word e =
+    rw (step-is-event (world .0) (world .1) (world .2) word (e .enters)) (
+    let (enters, four) = entry-kept (world .0) (world .1) (world .2) word (e .four) (e .enters) in
+    record { four = four; enters = enters }
+    )
+
+module _ (world : World) (word : ℕ) (order : Order) (e : Entering world) (legal : Legal (world .0 .count) word order) where
+  abbrev count : ℕ
+  count = world .0 .count
+
+  abbrev chips : List Chip
+  chips = world .0 .chips
+
+  abbrev clashes : Bool
+  clashes = clash (eventOf order) count chips
+
+  entry : Entered (world .0) (world .1) (world .2)
+  entry = entered (world .0) (world .1) (world .2) (e .enters)
+
+  verdict : firstOf (eventChecks (world .0) word) ≡ cond clashes (Refused Clash) Passed
+  verdict = rw (legal .0, legal .1, legal .2)
+
+  by-clash : (b : Bool) → clashes ≡ b → stepped step world word ≡ stepBy (cond b (Refused Clash) Passed) (world .0) (world .1) (world .2) word
+  unfolding event
+  by-clash b is =
+      step-is-event (world .0) (world .1) (world .2) word (e .enters)
+      ∙ ap (λ (v : Verdict). stepBy v (world .0) (world .1) (world .2) word) verdict
+      ∙ ap (λ (c : Bool). stepBy (cond c (Refused Clash) Passed) (world .0) (world .1) (world .2) word) is
+
+  pub step-clashes : clash (eventOf order) (world .0 .count) (world .0 .chips) ≡ true → stepped step world word ≡ refused Clash (world .0) (world .1) (world .2)
+  step-clashes is = by-clash true is
+
+  pub step-plays : clash (eventOf order) (world .0 .count) (world .0 .chips) ≡ false → stepped step world word ≡ played order (world .0) (world .1) (world .2)
+  step-plays is = by-clash false is ∙ ap (λ (o : Order). played o (world .0) (world .1) (world .2)) (legal .2)
+
+  -- what holds of a world as it is, and as it is played, holds after a step
+  led : (P : World → Type 0) → P world → P (ledTo (played order (world .0) (world .1) (world .2))) → P (afterOne step world word)
+  led P stays moves = go clashes refl
+    where
+      go : (b : Bool) → clashes ≡ b → P (afterOne step world word)
+      go true is = rw (step-clashes is) stays
+      go false is = rw (step-plays is) moves
+
+  pub count-kept : afterOne step world word .0 .count ≡ world .0 .count
+  unfolding played
+  count-kept = led (λ (next : World). next .0 .count ≡ count) refl refl
+
+  pub board-kept : placesOf (afterOne step world word .0 .chips) ≡ placesOf (world .0 .chips)
+  unfolding played
+  board-kept =
+      led (λ (next : World). placesOf (next .0 .chips) ≡ placesOf chips) refl
+      (places-kept order count chips (world .1) (world .2) (e .four) (entry .array-fits) (entry .security-fits))
+
+  pub rest-kept : (i : ℕ) → world .0 .count ≤ i → chipAt (afterOne step world word .0 .chips) i ≡ chipAt (world .0 .chips) i
+  unfolding played
+  rest-kept i past =
+      led (λ (next : World). chipAt (next .0 .chips) i ≡ chipAt chips i) refl
+      (the-rest-stays order count chips (world .1) (world .2) (e .four) (entry .array-fits) (entry .security-fits) i (omega (arith, entry .all-placed)))
+
+  -- played, each chip has made its own step
+  pub each-moves : clash (eventOf order) (world .0 .count) (world .0 .chips) ≡ false → (i : ℕ) → i < world .0 .count
+      → let mine = own order (world .0 .chips) (world .1) (world .2) i in alone i (afterOne step world word) ≡ (onlyBus (mine .0 .chip), mine .1, mine .2)
+  unfolding played
+  each-moves is i below =
+      let (chip-is, array-is, security-is) = each-chip-takes-its-own order count chips (world .1) (world .2) (e .four) (entry .array-fits) (entry .security-fits) i (omega (arith, entry .all-placed)) in
+      ap (λ (next : Stepped × List ℕ × List ℕ). alone i (ledTo next)) (step-plays is)
+      ∙ rw (
+        places-kept order count chips (world .1) (world .2) (e .four) (entry .array-fits) (entry .security-fits),
+        chip-is,
+        array-is,
+        security-is,
+      )

@@ -1,0 +1,132 @@
+-- A list of turns, by induction: whatever the order, chip k ends as it does when its own turns are played to it alone, and each of them
+-- gets the answers that it gets there.
+use Prim.Native.Nat.{ℕ, zero, suc, _<_, _≤_}
+use native.Mathlib.Omega.{arith}
+use mathlib.Core.Bool.{Bool, true, false, cond, _&&_}
+use mathlib.Core.List.{List, [], _∷_, _++_, map}
+use mathlib.Core.Path.{_≡_, _∙_, refl, sym, ap, subst}
+use lib.Dec.{eqb, ltb}
+use lib.ListN.{length, getD, take, drop}
+use borrow.Author.Tests.{eqb-true, eqb-false, ltb-true}
+use Rattle.base.proofs.Fold.{and-left, and-right}
+use Rattle.board.specs.declared.Place.{Place}
+use Rattle.lineup.specs.Chips.{chipAt, placesOf}
+use Rattle.bus.specs.Step.{step}
+use Rattle.turns.specs.Turn.{Turn, isTurn, isTurnAt}
+use Rattle.turns.specs.Shuffle.{areTurns, eventsOf, turnsOf, turnOf, answersOf, answerOf, isExcepted}
+use Rattle.turns.specs.Alone.{World, alone, renamed, ownTurns}
+use Rattle.turns.specs.Playing.{after, answersTo, ending}
+use Rattle.turns.specs.Undisturbed.{Idle, Turns, AsAlone}
+use Rattle.turns.proofs.Lists.{after-append, answers-cut}
+use Rattle.turns.proofs.Whole.{Leaves, turn-leaves}
+
+-- a turn as its chip has it alone
+abbrev alike : List ℕ → Turn
+alike events = record { chip = 0; events = map renamed events }
+
+-- what turns keep from one world to another: an idle bus, its count and the places past it
+pub record Passes (world ends : World) : Type 0 where
+  pub idle : Idle ends
+  pub count : ends .0 .count ≡ world .0 .count
+  pub rest : (i : ℕ) → world .0 .count ≤ i → chipAt (ends .0 .chips) i ≡ chipAt (world .0 .chips) i
+
+-- the first turn of a list, and where the others begin
+module _ (world : World) (idle : Idle world) (turn : Turn) (rest : List Turn) (are : Turns world (turn ∷ rest)) where
+  abbrev next : World
+  next = after step world (turn .events)
+
+  leaves : Leaves world (turn .chip) (turn .events)
+  unfolding areTurns
+  leaves = turn-leaves world idle turn (and-left _ _ are)
+
+  are-later : Turns next rest
+  unfolding areTurns
+  are-later = rw (leaves .count, leaves .board) (and-right (isTurn (world .0 .count) (placesOf (world .0 .chips)) turn) _ are)
+
+  -- its chip's world then, and another's
+  own-next : (k : ℕ) → turn .chip ≡ k → alone k next ≡ after step (alone k world) (map renamed (turn .events))
+  own-next k same = subst (λ (n : ℕ). alone n next ≡ after step (alone n world) (map renamed (turn .events))) same (leaves .own)
+
+  own-answers : (k : ℕ) → turn .chip ≡ k → (i : ℕ) → isExcepted (turn .events) i ≡ false
+      → getD (answersTo step world (turn .events)) i 0 ≡ getD (answersTo step (alone k world) (map renamed (turn .events))) i 0
+  own-answers k same i usual = subst (λ (n : ℕ). getD (answersTo step world (turn .events)) i 0 ≡ getD (answersTo step (alone n world) (map renamed (turn .events))) i 0) same (leaves .answers i usual)
+
+  other-next : (k : ℕ) → k < world .0 .count → (turn .chip ≡ k → ⊥) → alone k next ≡ alone k world
+  other-next k below differ = leaves .others k below (λ (is : k ≡ turn .chip). differ (sym is))
+
+pub turns-pass : (turns : List Turn) (world : World) → Idle world → Turns world turns → Passes world (after step world (eventsOf turns))
+unfolding after eventsOf
+turns-pass [] world idle are = record { idle = idle; count = refl; rest = λ i past. refl }
+turns-pass (turn ∷ rest) world idle are =
+    let first = leaves world idle turn rest are in
+    let later = turns-pass rest (after step world (turn .events)) (first .idle) (are-later world idle turn rest are) in
+    subst (Passes world) (sym (after-append step world (turn .events) (eventsOf rest))) (
+    record {
+      idle = later .idle;
+      count = later .count ∙ first .count;
+      rest = λ i past. later .rest i (omega (arith, past, first .count)) ∙ first .rest i past;
+    }
+    )
+
+pub ends-alone : (turns : List Turn) (world : World) → Idle world → Turns world turns → (k : ℕ) → k < world .0 .count
+    → alone k (after step world (eventsOf turns)) ≡ after step (alone k world) (eventsOf (ownTurns k turns))
+unfolding after eventsOf turnsOf
+ends-alone [] world idle are k below = refl
+ends-alone (turn ∷ rest) world idle are k below =
+    let first = leaves world idle turn rest are in
+    ap (alone k) (after-append step world (turn .events) (eventsOf rest))
+    ∙ ends-alone rest (after step world (turn .events)) (first .idle) (are-later world idle turn rest are) k (omega (arith, below, first .count))
+    ∙ go (eqb (turn .chip) k) refl
+  where
+    go : (same : Bool) → eqb (turn .chip) k ≡ same
+        → after step (alone k (after step world (turn .events))) (eventsOf (ownTurns k rest))
+        ≡ after step (alone k world) (eventsOf (map alike (cond same (turn .events ∷ turnsOf k rest) (turnsOf k rest))))
+    go true is =
+        ap (λ (w : World). after step w (eventsOf (ownTurns k rest))) (own-next world idle turn rest are k (eqb-true _ _ is))
+        ∙ sym (after-append step (alone k world) (map renamed (turn .events)) (eventsOf (ownTurns k rest)))
+    go false is = ap (λ (w : World). after step w (eventsOf (ownTurns k rest))) (other-next world idle turn rest are k below (eqb-false _ _ is))
+
+-- the answers to the turns of chip k, in the list and alone
+module _ (k : ℕ) where
+  abbrev inList : World → List Turn → List (List ℕ)
+  inList world turns = answersOf k turns (answersTo step world (eventsOf turns))
+
+  abbrev byItself : World → List (List ℕ) → List (List ℕ)
+  byItself world own = answersOf 0 (map alike own) (answersTo step world (eventsOf (map alike own)))
+
+  -- event i of the j-th turn gets the same answer in both, unless it is excepted
+  abbrev Same : List (List ℕ) → List (List ℕ) → List (List ℕ) → Type 0
+  Same own one other = (j i : ℕ) → isExcepted (getD own j []) i ≡ false → getD (getD one j []) i 0 ≡ getD (getD other j []) i 0
+
+  same-more : (events : List ℕ) (own : List (List ℕ)) (a b : List ℕ) (one other : List (List ℕ))
+      → ((i : ℕ) → isExcepted events i ≡ false → getD a i 0 ≡ getD b i 0)
+      → Same own one other
+      → Same (events ∷ own) (a ∷ one) (b ∷ other)
+  same-more events own a b one other first later zero i usual = first i usual
+  same-more events own a b one other first later (suc j) i usual = later j i usual
+
+  pub answers-alone : (turns : List Turn) (world : World) → Idle world → Turns world turns → k < world .0 .count
+      → Same (turnsOf k turns) (inList world turns) (byItself (alone k world) (turnsOf k turns))
+  unfolding turnsOf answersOf
+  answers-alone [] world idle are below = λ j i usual. refl
+  answers-alone (turn ∷ rest) world idle are below =
+      let first = leaves world idle turn rest are in
+      subst (λ (one : List (List ℕ)). Same (turnsOf k (turn ∷ rest)) one (byItself (alone k world) (turnsOf k (turn ∷ rest)))) (sym (answers-cut step world k turn rest))
+      (go (eqb (turn .chip) k) refl
+      (answers-alone rest (after step world (turn .events)) (first .idle) (are-later world idle turn rest are) (omega (arith, below, first .count))))
+    where
+      next : World
+      next = after step world (turn .events)
+
+      own : List (List ℕ)
+      own = turnsOf k rest
+
+      go : (same : Bool) → eqb (turn .chip) k ≡ same → Same own (inList next rest) (byItself (alone k next) own)
+          → Same (cond same (turn .events ∷ own) own) (cond same (answersTo step world (turn .events) ∷ inList next rest) (inList next rest))
+          (byItself (alone k world) (cond same (turn .events ∷ own) own))
+      go true is later =
+          subst (Same (turn .events ∷ own) (answersTo step world (turn .events) ∷ inList next rest)) (sym (answers-cut step (alone k world) 0 (alike (turn .events)) (map alike own)))
+          (same-more (turn .events) own (answersTo step world (turn .events)) (answersTo step (alone k world) (map renamed (turn .events))) (inList next rest) (byItself (after step (alone k world) (map renamed (turn .events))) own)
+          (own-answers world idle turn rest are k (eqb-true _ _ is))
+          (subst (λ (w : World). Same own (inList next rest) (byItself w own)) (own-next world idle turn rest are k (eqb-true _ _ is)) later))
+      go false is later = subst (λ (w : World). Same own (inList next rest) (byItself w own)) (other-next world idle turn rest are k below (eqb-false _ _ is)) later

@@ -1,0 +1,81 @@
+-- Demand 3: chips do not disturb each other. Whatever the order, each chip ends as it does by itself, and worlds that are the same at every
+-- chip are the same.
+use Prim.Native.Nat.{ℕ, _<_, _≤_}
+use native.Mathlib.Decide.{decLt}
+use native.Mathlib.Omega.{arith}
+use mathlib.Core.Bool.{true, false, cond}
+use mathlib.Core.List.{List, [], _∷_, map}
+use mathlib.Core.Path.{_≡_, _∙_, refl, sym, ap}
+use lib.Dec.{eqb, ltb}
+use lib.ListN.{length, getD, drop}
+use borrow.Author.Tests.{ltb-true, ne-eqb}
+use Rattle.base.proofs.Fold.{and-left, and-right}
+use Rattle.board.specs.declared.Place.{Place}
+use Rattle.lineup.specs.Chips.{placesOf}
+use Rattle.bus.specs.Step.{step}
+use Rattle.turns.specs.Turn.{Turn, isTurn}
+use Rattle.turns.specs.Shuffle.{areTurns, eventsOf, turnsOf, Shuffle, turnOf, answersOf, answerOf, isExcepted}
+use Rattle.turns.specs.Alone.{World, alone, renamed, ownTurns}
+use Rattle.turns.specs.Playing.{after, answersTo, ending}
+use Rattle.turns.specs.Undisturbed.{Idle, Turns, Alike, AsAlone, Undisturbed}
+use Rattle.turns.proofs.Lists.{shuffle-turns}
+use Rattle.turns.proofs.Same.{same-world}
+use Rattle.turns.proofs.Turns.{turns-pass, ends-alone, answers-alone}
+use Rattle.turns.proofs.Acknowledged.{call-acknowledged}
+
+-- a chip past the count has no turn
+no-answers : (count : ℕ) (places : List Place) (k : ℕ) (turns : List Turn) (answers : List ℕ) → areTurns count places turns ≡ true → count ≤ k → answersOf k turns answers ≡ []
+unfolding areTurns answersOf
+no-answers count places k [] answers are past = refl
+no-answers count places k (turn ∷ rest) answers are past =
+    let below : turn .chip < count = ltb-true _ _ (and-left _ _ (and-left _ _ are)) in
+    rw (ne-eqb (turn .chip) k (λ same. omega (arith, same)))
+    (no-answers count places k rest (drop (length (turn .events)) answers) (and-right (isTurn count places turn) _ are) past)
+
+by-itself : (world : World) (turns : List Turn) → Idle world → Turns world turns → (k : ℕ) → k < world .0 .count
+    → AsAlone k turns (ending step world turns) (ending step (alone k world) (ownTurns k turns))
+by-itself world turns idle are k below =
+    record { ends = ends-alone turns world idle are k below; answers = answers-alone k turns world idle are below }
+
+module _ (world : World) (turns others : List Turn) (idle : Idle world) (are : Turns world turns) (shuffle : Shuffle turns others) where
+  are-too : Turns world others
+  are-too = shuffle-turns (world .0 .count) (placesOf (world .0 .chips)) turns others are shuffle
+
+  own-same : (k : ℕ) → ownTurns k turns ≡ ownTurns k others
+  own-same k = ap (map _) (shuffle k)
+
+  ends-same : after step world (eventsOf turns) ≡ after step world (eventsOf others)
+  ends-same =
+      let one = turns-pass turns world idle are in
+      let other = turns-pass others world idle are-too in
+      same-world _ _ (one .idle .four) (other .idle .four) (one .count ∙ sym (other .count)) (one .idle .enters) (other .idle .enters)
+      (λ i past. one .rest i (omega (arith, past, one .count)) ∙ sym (other .rest i (omega (arith, past, one .count))))
+      (λ k below.
+      let there : k < world .0 .count = omega (arith, below, one .count) in
+      ends-alone turns world idle are k there
+      ∙ ap (λ (own : List Turn). after step (alone k world) (eventsOf own)) (own-same k)
+      ∙ sym (ends-alone others world idle are-too k there))
+
+  answers-same : (k j i : ℕ) → isExcepted (turnOf k turns j) i ≡ false
+      → answerOf k turns (answersTo step world (eventsOf turns)) j i ≡ answerOf k others (answersTo step world (eventsOf others)) j i
+  answers-same k j i usual = go (decLt k (world .0 .count))
+    where
+      go : Dec (k < world .0 .count) → answerOf k turns (answersTo step world (eventsOf turns)) j i ≡ answerOf k others (answersTo step world (eventsOf others)) j i
+      go (yes p) =
+          by-itself world turns idle are k p .answers j i usual
+          ∙ ap (λ (own : List Turn). answerOf 0 own (answersTo step (alone k world) (eventsOf own)) j i) (own-same k)
+          ∙ sym (by-itself world others idle are-too k p .answers j i (ap (λ (own : List (List ℕ)). isExcepted (getD own j []) i) (sym (shuffle k)) ∙ usual))
+      go (no p) =
+          rw (
+            no-answers (world .0 .count) (placesOf (world .0 .chips)) k turns (answersTo step world (eventsOf turns)) are (omega arith),
+            no-answers (world .0 .count) (placesOf (world .0 .chips)) k others (answersTo step world (eventsOf others)) are-too (omega arith),
+          )
+
+pub undisturbed : Undisturbed step
+undisturbed =
+    record {
+      shuffled = λ world turns others idle are shuffle.
+          record { ends = ends-same world turns others idle are shuffle; answers = answers-same world turns others idle are shuffle };
+      by-itself = by-itself;
+      excepted = λ world turns idle are. call-acknowledged (eventsOf turns) world (record { four = idle .four; enters = idle .enters });
+    }

@@ -1,0 +1,160 @@
+-- One turn on an idle bus, whole: what all of demand 3 is made of.
+use Prim.Native.Nat.{ℕ, _+_, _<_, _≤_}
+use native.Mathlib.Decide.{decLt}
+use native.Mathlib.Omega.{arith}
+use mathlib.Core.Bool.{Bool, true, false, cond, _&&_, and-comm, false≢true}
+use mathlib.Core.List.{List, [], _∷_, map}
+use mathlib.Core.Path.{_≡_, _∙_, refl, ap, subst}
+use lib.Dec.{eqb, ltb}
+use lib.ListN.{length, getD}
+use borrow.Author.Tests.{eqb-true, eqb-false, ltb-true}
+use Rattle.base.specs.Fold.{allBelow}
+use Rattle.base.proofs.Fold.{and-left, and-right, all-at, all-each, any-pair-none}
+use Rattle.parts.specs.Part.{geometryOf}
+use Rattle.parts.specs.Address.{codesOf, firstCode, shareAddress}
+use Rattle.chip.specs.declared.Chip.{Chip}
+use Rattle.board.specs.declared.Place.{Place}
+use Rattle.board.specs.Place.{placeAt, placed}
+use Rattle.board.specs.Board.{sharedAddress, boardChecks, boardVerdict}
+use Rattle.board.specs.Shares.{figuresAt}
+use Rattle.lineup.specs.Chips.{chipAt, controlAt, placeOf, placesOf}
+use Rattle.lineup.proofs.Laws.{place-at}
+use Rattle.bus.specs.Step.{step}
+use Rattle.bus.proofs.Entry.{Entered, entered}
+use Rattle.promises.proofs.Formed.{none-holds, formed-of}
+use Rattle.turns.specs.Idle.{isAtRest, isIdle}
+use Rattle.turns.specs.Turn.{Turn, Next, Anything, AddressByte, isStart, isNaming, goesOn, isTurnAt, isTurn}
+use Rattle.turns.specs.Shuffle.{isExcepted}
+use Rattle.turns.specs.Alone.{World, alone, renamed}
+use Rattle.turns.specs.Playing.{after, answersTo}
+use Rattle.turns.specs.Undisturbed.{Idle}
+use Rattle.turns.proofs.Others.{Others}
+use Rattle.turns.proofs.During.{During}
+use Rattle.turns.proofs.Turn.{Went, goes-on, start-goes, named-goes}
+
+-- two chips match one address byte, whichever is named first
+shared-sym : (places : List Place) (i j : ℕ) → sharedAddress places i j ≡ sharedAddress places j i
+shared-sym places i j = and-comm (starts-before i j) (starts-before j i)
+  where
+    starts-before : ℕ → ℕ → Bool
+    starts-before i j =
+        ltb (firstCode (figuresAt places i) (placeAt places i .strap)) (firstCode (figuresAt places j) (placeAt places j .strap) + codesOf (figuresAt places j))
+
+module _ (began : World) (idle : Idle began) where
+  abbrev count : ℕ
+  count = began .0 .count
+
+  abbrev chips : List Chip
+  chips = began .0 .chips
+
+  abbrev places : List Place
+  places = placesOf chips
+
+  entry : Entered (began .0) (began .1) (began .2)
+  entry = entered (began .0) (began .1) (began .2) (idle .enters)
+
+  at-rest : (j : ℕ) → j < count → isAtRest (chipAt chips j) ≡ true
+  unfolding isIdle
+  at-rest j below = all-at (λ (i : ℕ). isAtRest (chipAt chips i)) (placed count) j (idle .idle) (omega (arith, entry .all-placed))
+
+  -- no two chips match one address byte: the last of set-up's checks
+  apart : (i j : ℕ) → i < count → j < i → sharedAddress places i j ≡ false
+  unfolding boardVerdict
+  apart i j below before =
+      any-pair-none (sharedAddress places) (placed count) i j
+      (none-holds (boardChecks count places) (formed-of count chips (entry .formed) .set-up) .1 .1 .1 .0)
+      (omega (arith, entry .all-placed))
+      before
+
+  unshared : (k j : ℕ) → k < count → j < count → (j ≡ k → ⊥) → sharedAddress places k j ≡ false
+  unshared k j below before differ = go (decLt j k)
+    where
+      go : Dec (j < k) → sharedAddress places k j ≡ false
+      go (yes p) = apart k j below p
+      go (no p) = shared-sym places k j ∙ apart j k before (omega (arith, differ))
+
+  others : (k : ℕ) → k < count → Others k (placeAt places k) began
+  others k below =
+      record {
+        below = below;
+        at-rest = at-rest;
+        marked = λ j before. idle .marks j (omega (arith, entry .chips-most));
+        unshared = λ j before differ.
+            subst (λ (p : Place). shareAddress (geometryOf (placeAt places k .part)) (placeAt places k .strap) (geometryOf (p .part)) (p .strap) ≡ false)
+            (place-at chips j (omega (arith, entry .chips-most)))
+            (unshared k j below before differ);
+      }
+
+  begins : (k : ℕ) → During k Anything began began
+  begins k =
+      record {
+        entering = record { four = idle .four; enters = idle .enters };
+        marks = idle .marks;
+        count = refl;
+        board = refl;
+        rest = λ i past. refl;
+        heeds = tt;
+        others = λ j before differ. refl;
+      }
+
+  went : (k : ℕ) (events : List ℕ) → k < count → isTurnAt (placeAt places k) k events ≡ true → Went k false events began began
+  unfolding isTurnAt
+  went k [] below is = absurd (false≢true is)
+  went k (word ∷ more) below is = go (isStart word) refl is more refl
+    where
+      go : (starts : Bool) → isStart word ≡ starts → cond starts (goesOn (placeAt places k) k AddressByte more) (isNaming k word && eqb (length more) 0) ≡ true
+          → (rest : List ℕ) → more ≡ rest
+          → Went k false (word ∷ more) began began
+      go true starts held rest none = start-goes k (placeAt places k) began (others k below) word more false began (goes-on k (placeAt places k) began (others k below) more) starts held (begins k)
+      go false starts held [] none = rw none (named-goes k (placeAt places k) began (others k below) word false (and-left _ _ held) (begins k))
+      go false starts held (other ∷ rest) none = let long : length more ≡ 0 = eqb-true _ _ (and-right (isNaming k word) _ held) in absurd (omega (arith, rw none at long))
+
+-- what a turn of chip k leaves
+pub record Leaves (began : World) (k : ℕ) (events : List ℕ) : Type 0 where
+  pub idle : Idle (after step began events)
+  pub count : after step began events .0 .count ≡ began .0 .count
+  pub board : placesOf (after step began events .0 .chips) ≡ placesOf (began .0 .chips)
+  pub rest : (i : ℕ) → began .0 .count ≤ i → chipAt (after step began events .0 .chips) i ≡ chipAt (began .0 .chips) i
+  pub others : (j : ℕ) → j < began .0 .count → (j ≡ k → ⊥) → alone j (after step began events) ≡ alone j began
+  pub own : alone k (after step began events) ≡ after step (alone k began) (map renamed events)
+  pub answers : (i : ℕ) → isExcepted events i ≡ false
+      → getD (answersTo step began events) i 0 ≡ getD (answersTo step (alone k began) (map renamed events)) i 0
+
+pub turn-leaves : (began : World) → Idle began → (turn : Turn) → isTurn (began .0 .count) (placesOf (began .0 .chips)) turn ≡ true
+    → Leaves began (turn .chip) (turn .events)
+unfolding isIdle
+turn-leaves began idle turn is =
+    record {
+      idle = record { four = now .entering .four; marks = now .marks; enters = now .entering .enters; idle = at-rest-again };
+      count = now .count;
+      board = now .board;
+      rest = now .rest;
+      others = now .others;
+      own = whole .moves;
+      answers = whole .answers;
+    }
+  where
+    k : ℕ
+    k = turn .chip
+
+    below : k < began .0 .count
+    below = ltb-true _ _ (and-left _ _ is)
+
+    whole : Went k false (turn .events) began began
+    whole = went began idle k (turn .events) below (and-right (ltb k (began .0 .count)) _ is)
+
+    ends : World
+    ends = after step began (turn .events)
+
+    now : During k Anything began ends
+    now = whole .ended
+
+    rests : (j : ℕ) → j < began .0 .count → (same : Bool) → eqb j k ≡ same → isAtRest (chipAt (ends .0 .chips) j) ≡ true
+    rests j before true same = rw (eqb-true j k same) (whole .rests)
+    rests j before false same =
+        ap (λ (w : World). isAtRest (chipAt (w .0 .chips) 0)) (now .others j before (eqb-false j k same)) ∙ at-rest began idle j before
+
+    at-rest-again : isIdle (ends .0) ≡ true
+    at-rest-again =
+        all-each (λ (i : ℕ). isAtRest (chipAt (ends .0 .chips) i)) (placed (ends .0 .count))
+        (λ j below. rests j (omega (arith, below, now .count, entered (ends .0) (ends .1) (ends .2) (now .entering .enters) .all-placed)) (eqb j k) refl)

@@ -1,0 +1,33 @@
+-- A chip alone on the line: a bus of that chip only, with its state and its shares of the memories, where events 05 to 07 that named k
+-- name it by its only number, 00 (paper, "Whose turn it is").
+use Prim.Native.Nat.{ℕ}
+use mathlib.Core.Bool.{cond, _&&_}
+use mathlib.Core.List.{List, [], _∷_, map}
+use lib.Dec.{leb}
+use Rattle.base.specs.Word.{wordOf}
+use Rattle.order.specs.Order.{kindOf}
+use Rattle.lineup.specs.Chips.{chipAt, placesOf}
+use Rattle.line.specs.Line.{arrayShare, securityShare}
+use Rattle.bus.specs.declared.Bus.{Bus}
+use Rattle.bus.specs.Setup.{emptyChip}
+use Rattle.turns.specs.Turn.{Turn}
+use Rattle.turns.specs.Shuffle.{turnsOf}
+
+-- a state and both stores
+abbrev pub World : Type 0
+World = Bus × List ℕ × List ℕ
+
+abbrev pub alone : ℕ → World → World
+alone k world =
+    let chips = world .0 .chips in (
+      record { count = 1; chips = chipAt chips k ∷ emptyChip ∷ emptyChip ∷ emptyChip ∷ [] },
+      arrayShare (placesOf chips) k (world .1),
+      securityShare (placesOf chips) k (world .2),
+    )
+
+abbrev pub renamed : ℕ → ℕ
+renamed word = cond (leb 5 (kindOf word) && leb (kindOf word) 7) (wordOf (kindOf word) 0) word
+
+-- the turns of chip k as it has them alone
+abbrev pub ownTurns : ℕ → List Turn → List Turn
+ownTurns k turns = map (λ (events : List ℕ). record { chip = 0; events = map renamed events }) (turnsOf k turns)

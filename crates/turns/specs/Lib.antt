@@ -1,0 +1,6 @@
+pub mod Idle
+pub mod Turn
+pub mod Shuffle
+pub mod Alone
+pub mod Playing
+pub mod Undisturbed

@@ -1,0 +1,56 @@
+-- Lists of turns, their shuffles, and the j-th turn of a chip in one list and in another.
+use Prim.Native.Nat.{ℕ, zero, suc}
+use mathlib.Core.Bool.{Bool, true, false, cond, _&&_}
+use mathlib.Core.List.{List, [], _∷_, _++_}
+use mathlib.Core.Path.{_≡_}
+use lib.Dec.{eqb}
+use lib.ListN.{length, getD, take, drop}
+use Rattle.base.specs.Word.{wordOf}
+use Rattle.board.specs.declared.Place.{Place}
+use Rattle.turns.specs.Turn.{Turn, isStart, isTurn}
+
+unfoldable pub areTurns : ℕ → List Place → List Turn → Bool
+areTurns count places [] = true
+areTurns count places (turn ∷ rest) = isTurn count places turn && areTurns count places rest
+
+-- one turn after the other
+unfoldable pub eventsOf : List Turn → List ℕ
+eventsOf [] = []
+eventsOf (turn ∷ rest) = turn .events ++ eventsOf rest
+
+-- the turns of chip k, in their order
+unfoldable pub turnsOf : ℕ → List Turn → List (List ℕ)
+turnsOf k [] = []
+turnsOf k (turn ∷ rest) = cond (eqb (turn .chip) k) (turn .events ∷ turnsOf k rest) (turnsOf k rest)
+
+-- a shuffle has for each chip the same list of own turns
+abbrev pub Shuffle : List Turn → List Turn → Type 0
+Shuffle turns others = (k : ℕ) → turnsOf k turns ≡ turnsOf k others
+
+-- the j-th turn of chip k
+abbrev pub turnOf : ℕ → List Turn → ℕ → List ℕ
+turnOf k turns j = getD (turnsOf k turns) j []
+
+-- the answers to the turns of chip k, from those to the whole list
+unfoldable pub answersOf : ℕ → List Turn → List ℕ → List (List ℕ)
+answersOf k [] answers = []
+answersOf k (turn ∷ rest) answers =
+    let n = length (turn .events) in
+    cond (eqb (turn .chip) k) (take n answers ∷ answersOf k rest (drop n answers)) (answersOf k rest (drop n answers))
+
+-- the answer to event i of the j-th turn of chip k
+abbrev pub answerOf : ℕ → List Turn → List ℕ → ℕ → ℕ → ℕ
+answerOf k turns answers j i = getD (getD (answersOf k turns answers) j []) i 0
+
+-- F8h
+abbrev pub isCall : ℕ → Bool
+isCall word = eqb word (wordOf 3 0xF8)
+
+-- event i stands straight after a Start; `first` says whether the first event does
+abbrev pub isAfterStart : Bool → List ℕ → ℕ → Bool
+isAfterStart first events zero = first
+isAfterStart first events (suc i) = isStart (getD events i 0)
+
+-- the one excepted answer is that to F8h straight after a Start
+abbrev pub isExcepted : List ℕ → ℕ → Bool
+isExcepted events i = isAfterStart false events i && isCall (getD events i 0)

@@ -2,11 +2,10 @@
 -- every chip awaits an address byte or is busy, and F8h is acknowledged by the ones that await.
 use Prim.Native.Nat.{ℕ, zero, suc, _<_}
 use native.Mathlib.Omega.{arith}
-use mathlib.Core.Bool.{Bool, true, false, cond, not, _&&_, true≢false, false≢true}
+use mathlib.Core.Bool.{Bool, true, false, cond, not, false≢true}
 use mathlib.Core.List.{List, [], _∷_}
 use mathlib.Core.Logic.{_⊎_, inl, inr}
 use mathlib.Core.Path.{_≡_, _∙_, refl, sym, ap}
-use lib.ListN.{length, getD, take}
 use borrow.Author.Tests.{eqb-true, not-true, not-false}
 use Rattle.base.specs.Fold.{anyBelow}
 use Rattle.base.specs.Word.{wordOf}
@@ -15,29 +14,24 @@ use Rattle.control.specs.declared.Said.{Said}
 use Rattle.control.specs.declared.Said.the-variants.{Nothing, Ack}
 use Rattle.control.specs.Phase.{isBusy, isSending}
 use Rattle.chip.specs.declared.Chip.{Chip}
-use Rattle.chip.specs.declared.event.Event.{Event}
 use Rattle.chip.specs.declared.event.Event.the-variants.{Start, Sent}
 use Rattle.refusal.specs.Refusal.{answerWord}
-use Rattle.refusal.specs.declared.Answer.the-variants as answer
 use Rattle.board.specs.Place.{placed}
 use Rattle.order.specs.declared.Order.the-variants.{ToAll}
-use Rattle.order.specs.Order.{valueOf}
-use Rattle.order.specs.Hearing.{clashesWith}
 use Rattle.lineup.specs.Chips.{chipAt, controlAt}
-use Rattle.line.specs.Line.{clash, play, lineReply}
+use Rattle.line.specs.Line.{clash, lineReply}
 use Rattle.bus.specs.declared.Stepped.{Stepped}
 use Rattle.bus.specs.Step.{played, step}
 use Rattle.bus.proofs.Entry.{Entered, entered}
 use Rattle.promises.specs.Own.{own, gathered}
 use Rattle.promises.proofs.Chips.{answer-is-gathered}
 use Rattle.promises.proofs.Replies.{isAck, acknowledged-exactly-when, else-unanswered}
-use Rattle.turns.specs.Turn.{isStart}
-use Rattle.turns.specs.Shuffle.{isCall, isAfterStart, isExcepted}
+use Rattle.turns.specs.Turn.{isStart, isF8}
 use Rattle.turns.specs.Alone.{World, alone}
 use Rattle.turns.specs.Playing.{afterOne, answerTo, after, answersTo}
 use Rattle.turns.specs.Undisturbed.{isSomeFree, Acknowledged}
-use Rattle.turns.proofs.Asked.{Legal, start-asks, sent-asks}
-use Rattle.turns.proofs.Resting.{isHeeding, start-heeds, heeding-sends-nothing, call-said}
+use Rattle.turns.proofs.Asked.{start-asks, f8-asks}
+use Rattle.turns.proofs.Resting.{isHeeding, start-heeds, heeding-sends-nothing, f8-said}
 use Rattle.turns.proofs.Stepping.{Entering, entering-kept, step-plays, count-kept, each-moves}
 
 -- a bus on which every chip awaits an address byte or is busy
@@ -55,7 +49,7 @@ module _ (world : World) (e : Entering world) (heeding : (i : ℕ) → i < world
   free i = not (isBusy (controlAt chips i .phase))
 
   says : (i : ℕ) → i < placed count → own (ToAll (Sent 0xF8)) chips (world .1) (world .2) i .0 .said ≡ cond (isBusy (controlAt chips i .phase)) Nothing Ack
-  says i below = call-said (chipAt chips i) _ _ (heeding i (omega (arith, entry .all-placed)))
+  says i below = f8-said (chipAt chips i) _ _ (heeding i (omega (arith, entry .all-placed)))
 
   abbrev reply : ℕ
   reply = lineReply (Sent 0xF8) (gathered (ToAll (Sent 0xF8)) count chips (world .1) (world .2))
@@ -75,9 +69,9 @@ module _ (world : World) (e : Entering world) (heeding : (i : ℕ) → i < world
           absurd (false≢true (ap isAck (rw busy at (sym (says i below) ∙ acked))))
       go (inr none) = none
 
-  call-answered : (word : ℕ) → isCall word ≡ true → answerTo step world word ≡ wordOf 0 (cond (isSomeFree (world .0)) 0x01 0x00)
+  f8-answered : (word : ℕ) → isF8 word ≡ true → answerTo step world word ≡ wordOf 0 (cond (isSomeFree (world .0)) 0x01 0x00)
   unfolding played
-  call-answered word is = go (eqb-true word (wordOf 3 0xF8) is)
+  f8-answered word is = go (eqb-true word (wordOf 3 0xF8) is)
     where
       calm : clash (Sent 0xF8) count chips ≡ false
       calm = none-any (λ (i : ℕ). isSending (controlAt chips i .phase)) (placed count) (λ i below. heeding-sends-nothing (controlAt chips i .phase) (heeding i (omega (arith, entry .all-placed))))
@@ -85,7 +79,7 @@ module _ (world : World) (e : Entering world) (heeding : (i : ℕ) → i < world
       go : word ≡ wordOf 3 0xF8 → answerTo step world word ≡ wordOf 0 (cond (isSomeFree (world .0)) 0x01 0x00)
       go same =
           rw same (
-          ap (λ (next : Stepped × List ℕ × List ℕ). answerWord (next .0 .answer)) (step-plays world (wordOf 3 0xF8) (ToAll (Sent 0xF8)) e (sent-asks count (wordOf 3 0xF8) refl .0) calm)
+          ap (λ (next : Stepped × List ℕ × List ℕ). answerWord (next .0 .answer)) (step-plays world (wordOf 3 0xF8) (ToAll (Sent 0xF8)) e (f8-asks count (wordOf 3 0xF8) refl .0) calm)
           ∙ ap (λ (said : Said). wordOf 0 (lineReply (Sent 0xF8) said)) (answer-is-gathered (ToAll (Sent 0xF8)) count chips (world .1) (world .2) (e .four) (entry .array-fits) (entry .security-fits))
           ∙ ap (λ (byte : ℕ). wordOf 0 byte) (reply-is (anyBelow free (placed count)) refl)
           )
@@ -100,17 +94,21 @@ start-leaves world word e is i below =
     ∙ start-heeds (chipAt (world .0 .chips) i) (alone i world .1) (alone i world .2)
 
 -- wherever it stands in a list of events
-pub call-acknowledged : (events : List ℕ) (world : World) → Entering world → Acknowledged step world events
+pub f8-acknowledged : (events : List ℕ) (world : World) → Entering world → Acknowledged step world events
 unfolding after answersTo
-call-acknowledged [] world e = λ i is. absurd (false≢true (and-right (isAfterStart false [] i) _ is))
-call-acknowledged (word ∷ more) world e = go (call-acknowledged more (afterOne step world word) (entering-kept world word e)) more refl
+f8-acknowledged [] world e = none
+  where
+    none : Acknowledged step world []
+    none zero is = absurd (false≢true is)
+    none (suc i) is = absurd (false≢true is)
+f8-acknowledged (word ∷ more) world e = go (f8-acknowledged more (afterOne step world word) (entering-kept world word e)) more refl
   where
     go : Acknowledged step (afterOne step world word) more → (rest : List ℕ) → more ≡ rest → Acknowledged step world (word ∷ more)
     go later rest same zero is = absurd (false≢true is)
     go later [] same (suc zero) is = absurd (false≢true (and-right (isStart word) _ (rw same at is)))
-    go later (call ∷ rest) same (suc zero) is =
+    go later (f8 ∷ rest) same (suc zero) is =
         let both = rw same at is in
         rw same (
-        call-answered (afterOne step world word) (entering-kept world word e) (start-leaves world word e (and-left _ _ both)) call (and-right (isStart word) _ both)
+        f8-answered (afterOne step world word) (entering-kept world word e) (start-leaves world word e (and-left _ _ both)) f8 (and-right (isStart word) _ both)
         )
     go later rest same (suc (suc i)) is = later (suc i) is

@@ -13,7 +13,7 @@ use Rattle.order.specs.declared.Order.{Order}
 use Rattle.order.specs.declared.Order.the-variants.{ToAll, ToOne}
 use Rattle.order.specs.Order.{kindOf, valueOf, unknownKind, valueAllowed, orderOf}
 use Rattle.keeping.proofs.Beside.{isNamed}
-use Rattle.turns.specs.Turn.{isStart, isStop, isSent, isRead, isNaming}
+use Rattle.turns.specs.Turn.{isStart, isStop, isSent, isF8, isRead, isNaming}
 use Rattle.turns.specs.Alone.{renamed}
 
 -- an event word that passes 6 and 7, and what it asks for
@@ -46,6 +46,10 @@ unfolding orderOf
 sent-asks count word is =
     let kind : kindOf word ≡ 3 = eqb-true _ _ is in
     to-all count word _ (rw kind) (λ n. rw kind (refl, refl, refl))
+
+pub f8-asks : (count word : ℕ) → isF8 word ≡ true → Asked count word (ToAll (Sent 0xF8))
+unfolding orderOf
+f8-asks count word is = let same : word ≡ wordOf 3 0xF8 = eqb-true _ _ is in rw same ((refl, refl, refl), (refl, refl, refl))
 
 pub read-asks : (count word : ℕ) → isRead word ≡ true → Asked count word (ToAll (Read (eqb (valueOf word) 1)))
 unfolding orderOf

@@ -200,10 +200,10 @@ module _ (c : Chip) (rest : isAtRest c ≡ true) (marks : length (c .load .marks
       → step (awaiting phase c) a s (Sent byte) ≡ (quiet c, a, s)
   passes phase a s byte is = hears-awaited phase a s byte (quiet c) (λ standby. is ∙ ap quiet (asleep standby)) (λ busy. refl)
 
-  pub hears-call : (a s : List ℕ)
+  pub hears-f8 : (a s : List ℕ)
       → step (lifted AddressByte c) a s (Sent 0xF8) ≡ (record { chip = lifted ChoiceByte c; said = cond (isBusy (c .control .phase)) Nothing Ack }, a, s)
   unfolding taking.take taking.loaded takeAddress callOf
-  hears-call a s =
+  hears-f8 a s =
       hears-awaited AwaitsAddress a s 0xF8 _
       (λ standby. rw standby (ap (λ (d : Chip). record { chip = woken AwaitsChoice d; said = Ack }) unpicked))
       (λ busy. rw busy)

@@ -1,12 +1,12 @@
 -- A turn of chip k in progress. The other chips are as they were when it began, but that they hear a Start and F8h and await the byte that
 -- follows at once; an event of the turn moves k as it moves it alone on the line.
-use Prim.Native.Nat.{ℕ, _<_, _≤_}
+use Prim.Native.Nat.{ℕ, zero, suc, _<_, _≤_}
 use native.Mathlib.Decide.{decLt}
 use native.Mathlib.Omega.{arith}
-use mathlib.Core.Bool.{Bool, true, false, cond}
-use mathlib.Core.List.{List}
+use mathlib.Core.Bool.{Bool, true, false, cond, _&&_, true≢false}
+use mathlib.Core.List.{List, [], _∷_, map}
 use mathlib.Core.Path.{_≡_, _∙_, refl, sym, ap, subst}
-use lib.ListN.{length}
+use lib.ListN.{length, getD}
 use Rattle.base.proofs.test.Laws.{either}
 use Rattle.control.specs.declared.Said.{Said}
 use Rattle.control.specs.declared.Said.the-variants.{Nothing}
@@ -23,9 +23,11 @@ use Rattle.lineup.specs.Chips.{chipAt, controlAt, placesOf}
 use Rattle.line.specs.Line.{clash}
 use Rattle.bus.specs.Step.{step}
 use Rattle.promises.specs.Own.{own}
-use Rattle.turns.specs.Turn.{Next, Anything, AddressByte, ChoiceByte}
+use Rattle.turns.specs.Idle.{isAtRest}
+use Rattle.turns.specs.Turn.{isStart, isF8, Next, Anything, AddressByte, ChoiceByte}
+use Rattle.turns.specs.Shuffle.{isExcepted}
 use Rattle.turns.specs.Alone.{World, alone, renamed}
-use Rattle.turns.specs.Playing.{afterOne, answerTo}
+use Rattle.turns.specs.Playing.{afterOne, answerTo, after, answersTo}
 use Rattle.turns.proofs.Asked.{Asked}
 use Rattle.turns.proofs.Alone.{onlyBus}
 use Rattle.turns.proofs.Stepping.{Entering, ledTo, entering-kept, step-clashes, count-kept, board-kept, rest-kept, each-moves}
@@ -49,6 +51,43 @@ pub record During (k : ℕ) (next : Next) (began now : World) : Type 0 where
   pub others : (j : ℕ) → j < began .0 .count → (j ≡ k → ⊥)
       → alone j now ≡ (onlyBus (lifted next (chipAt (began .0 .chips) j)), alone j began .1, alone j began .2)
 
+-- where the rest of a turn leads, from where it is now; `started` says whether a Start has come just before
+abbrev pub excepted : Bool → List ℕ → ℕ → Bool
+excepted started events zero = started && isF8 (getD events 0 0)
+excepted started events (suc i) = isExcepted events (suc i)
+
+pub record Went (k : ℕ) (started : Bool) (events : List ℕ) (began now : World) : Type 0 where
+  pub ended : During k Anything began (after step now events)
+  pub rests : isAtRest (chipAt (after step now events .0 .chips) k) ≡ true
+  pub moves : alone k (after step now events) ≡ after step (alone k now) (map renamed events)
+  pub answers : (i : ℕ) → excepted started events i ≡ false
+      → getD (answersTo step now events) i 0 ≡ getD (answersTo step (alone k now) (map renamed events)) i 0
+
+-- one event, and the rest
+went-on : (k : ℕ) (started : Bool) (word : ℕ) (more : List ℕ) (began now : World)
+    → alone k (afterOne step now word) ≡ afterOne step (alone k now) (renamed word)
+    → ((started && isF8 word) ≡ false → answerTo step now word ≡ answerTo step (alone k now) (renamed word))
+    → Went k (isStart word) more began (afterOne step now word)
+    → Went k started (word ∷ more) began now
+unfolding after answersTo
+went-on k started word more began now moves answer later =
+    record {
+      ended = later .ended;
+      rests = later .rests;
+      moves = later .moves ∙ ap (λ (w : World). after step w (map renamed more)) moves;
+      answers = answers;
+    }
+  where
+    moved : (i : ℕ) → excepted (isStart word) more i ≡ false
+        → getD (answersTo step (afterOne step now word) more) i 0 ≡ getD (answersTo step (afterOne step (alone k now) (renamed word)) (map renamed more)) i 0
+    moved i usual = later .answers i usual ∙ ap (λ (w : World). getD (answersTo step w (map renamed more)) i 0) moves
+
+    answers : (i : ℕ) → excepted started (word ∷ more) i ≡ false
+        → getD (answersTo step now (word ∷ more)) i 0 ≡ getD (answersTo step (alone k now) (map renamed (word ∷ more))) i 0
+    answers zero usual = answer usual
+    answers (suc zero) usual = moved zero usual
+    answers (suc (suc i)) usual = moved (suc i) usual
+
 -- what chip j makes of an event, of its own world
 abbrev pub takes : Order → ℕ → World → Stepped × List ℕ × List ℕ
 takes order j world =
@@ -61,10 +100,14 @@ SitsThrough order next next′ says j began =
     (clashesWith (eventOf order) (lifted next c .control .phase) ≡ false)
     × (takes order j (onlyBus (lifted next c), alone j began .1, alone j began .2) ≡ (record { chip = lifted next′ c; said = says c }, alone j began .1, alone j began .2))
 
-module _ (k : ℕ) (next next′ : Next) (began now : World) (d : During k next began now) (below : k < began .0 .count) (word : ℕ) (order : Order) (asked : Asked (now .0 .count) word order) (reached : reaches order k ≡ true) (says : Chip → Said)
+-- an event of the turn, which the others sit through
+module _ (k : ℕ) (next next′ : Next) (began now : World) (below : k < began .0 .count) (d : During k next began now) (word : ℕ) (order : Order) (asked : Asked (now .0 .count) word order) (reached : reaches order k ≡ true) (says : Chip → Said)
     (sit : (j : ℕ) → j < began .0 .count → (j ≡ k → ⊥) → SitsThrough order next next′ says j began) where
   abbrev chips : List Chip
   chips = now .0 .chips
+
+  abbrev phase : Phase
+  phase = controlAt chips k .phase
 
   abbrev taken : Stepped × List ℕ × List ℕ
   taken = chip.step (chipAt chips k) (alone k now .1) (alone k now .2) (eventOf order)
@@ -82,19 +125,11 @@ module _ (k : ℕ) (next next′ : Next) (began now : World) (d : During k next 
       → own order chips (now .1) (now .2) j ≡ (record { chip = lifted next′ (chipAt (began .0 .chips) j); said = says (chipAt (began .0 .chips) j) }, alone j began .1, alone j began .2)
   sat j before differ = ap (takes order j) (d .others j before differ) ∙ sit j before differ .1
 
-  pub turn-clash : clash (eventOf order) (now .0 .count) (now .0 .chips) ≡ clashesWith (eventOf order) (controlAt (now .0 .chips) k .phase)
+  turn-clash : clash (eventOf order) (now .0 .count) chips ≡ clashesWith (eventOf order) phase
   turn-clash = clash-is-its-own now (d .entering) k below-now word order asked reached unclashing
 
-  pub turn-moves : alone k (afterOne step now word) ≡ afterOne step (alone k now) (renamed word)
-  turn-moves = alone-moves now (d .entering) k below-now word order asked reached unclashing
-
-  pub turn-answers : ((c : Chip) → says c ≡ Nothing) → answerTo step now word ≡ answerTo step (alone k now) (renamed word)
-  turn-answers silent =
-      answers-alike now (d .entering) k below-now word order asked reached unclashing λ is j before differ.
-      ap (λ (x : Stepped × List ℕ × List ℕ). x .0 .said) (sat j (omega (arith, before, d .count)) differ) ∙ silent _
-
   -- k itself has made its own step
-  pub turn-taken : clash (eventOf order) (now .0 .count) (now .0 .chips) ≡ false → chipAt (afterOne step now word .0 .chips) k ≡ taken .0 .chip
+  turn-taken : clash (eventOf order) (now .0 .count) chips ≡ false → chipAt (afterOne step now word .0 .chips) k ≡ taken .0 .chip
   turn-taken is =
       ap (λ (w : World). chipAt (w .0 .chips) 0) (each-moves now word order (d .entering) (asked .0) is k below-now) ∙ rw reached
 
@@ -109,15 +144,13 @@ module _ (k : ℕ) (next next′ : Next) (began now : World) (d : During k next 
           (d .marks i four)
       go (no p) = ap (λ (c : Chip). length (c .load .marks)) (rest-kept now word order (d .entering) (asked .0) i (omega arith)) ∙ d .marks i four
 
-  -- refused it may be only where the next event may be anything
-  pub turn-goes-on : (clash (eventOf order) (now .0 .count) (now .0 .chips) ≡ true → next ≡ next′)
-      → (clash (eventOf order) (now .0 .count) (now .0 .chips) ≡ false → Heeds next′ (taken .0 .chip .control .phase))
-      → During k next′ began (afterOne step now word)
+  -- it may be refused only where the next event may be anything
+  turn-goes-on : (clashesWith (eventOf order) phase ≡ true → next ≡ next′) → Heeds next′ (taken .0 .chip .control .phase) → During k next′ began (afterOne step now word)
   turn-goes-on refusable heeding = go (clash (eventOf order) (now .0 .count) chips) refl
     where
       go : (b : Bool) → clash (eventOf order) (now .0 .count) chips ≡ b → During k next′ began (afterOne step now word)
       go true is =
-          subst (λ (n : Next). During k n began (afterOne step now word)) (refusable is)
+          subst (λ (n : Next). During k n began (afterOne step now word)) (refusable (sym turn-clash ∙ is))
           (subst (λ (w : World). During k next began w) (sym (ap ledTo (step-clashes now word order (d .entering) (asked .0) is))) d)
       go false is =
           record {
@@ -126,8 +159,45 @@ module _ (k : ℕ) (next next′ : Next) (began now : World) (d : During k next 
             count = count-kept now word order (d .entering) (asked .0) ∙ d .count;
             board = board-kept now word order (d .entering) (asked .0) ∙ d .board;
             rest = λ i past. rest-kept now word order (d .entering) (asked .0) i (omega (arith, past, d .count)) ∙ d .rest i past;
-            heeds = subst (λ (c : Chip). Heeds next′ (c .control .phase)) (sym (turn-taken is)) (heeding is);
+            heeds = subst (λ (c : Chip). Heeds next′ (c .control .phase)) (sym (turn-taken is)) heeding;
             others = λ j before differ.
                 each-moves now word order (d .entering) (asked .0) is j (omega (arith, before, d .count))
                 ∙ ap (λ (x : Stepped × List ℕ × List ℕ). (onlyBus (x .0 .chip), x .1, x .2)) (sat j before differ);
           }
+
+  module _ (started : Bool) (usual : (started && isF8 word) ≡ false → (c : Chip) → says c ≡ Nothing) where
+    pub event-goes : (more : List ℕ)
+        → (During k next′ began (afterOne step now word) → Went k (isStart word) more began (afterOne step now word))
+        → (clashesWith (eventOf order) (controlAt (now .0 .chips) k .phase) ≡ true → next ≡ next′)
+        → Heeds next′ (chip.step (chipAt (now .0 .chips) k) (alone k now .1) (alone k now .2) (eventOf order) .0 .chip .control .phase)
+        → Went k started (word ∷ more) began now
+    event-goes more later refusable heeding =
+        went-on k started word more began now
+        (alone-moves now (d .entering) k below-now word order asked reached unclashing)
+        (λ none. answers-alike now (d .entering) k below-now word order asked reached unclashing λ j before differ.
+        ap (λ (x : Stepped × List ℕ × List ℕ). x .0 .said) (sat j (omega (arith, before, d .count)) differ) ∙ usual none _)
+        (later (turn-goes-on refusable heeding))
+
+    -- one that k cannot clash with
+    pub calm-goes : (more : List ℕ)
+        → (During k next′ began (afterOne step now word) → Went k (isStart word) more began (afterOne step now word))
+        → clashesWith (eventOf order) (controlAt (now .0 .chips) k .phase) ≡ false
+        → Heeds next′ (chip.step (chipAt (now .0 .chips) k) (alone k now .1) (alone k now .2) (eventOf order) .0 .chip .control .phase)
+        → Went k started (word ∷ more) began now
+    calm-goes more later calm = event-goes more later (λ clashes. absurd (true≢false (sym clashes ∙ calm)))
+
+    -- the last one, which leaves k at rest
+    pub last-goes : Anything ≡ next′ → clashesWith (eventOf order) (controlAt (now .0 .chips) k .phase) ≡ false
+        → isAtRest (chip.step (chipAt (now .0 .chips) k) (alone k now .1) (alone k now .2) (eventOf order) .0 .chip) ≡ true
+        → Went k started (word ∷ []) began now
+    unfolding after answersTo
+    last-goes free calm rests =
+        calm-goes [] (λ ended.
+        record {
+          ended = subst (λ (n : Next). During k n began (afterOne step now word)) (sym free) ended;
+          rests = subst (λ (c : Chip). isAtRest c ≡ true) (sym (turn-taken (turn-clash ∙ calm))) rests;
+          moves = refl;
+          answers = λ i plain. refl;
+        })
+        calm
+        (subst (λ (n : Next). Heeds n (taken .0 .chip .control .phase)) free tt)

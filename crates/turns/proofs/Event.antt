@@ -8,27 +8,26 @@ use mathlib.Core.Path.{_≡_, _∙_, refl, sym, ap}
 use lib.Dec.{eqb}
 use borrow.Author.Tests.{eqb-true, eqb-false}
 use Rattle.base.specs.Fold.{upTo, anyBelow}
+use Rattle.base.specs.Word.{wordOf}
 use Rattle.base.proofs.Fold.{any-at, none-any}
 use Rattle.control.specs.declared.Said.{Said}
 use Rattle.control.specs.declared.Said.the-variants.{Nothing, Ack, Byte}
 use Rattle.chip.specs.declared.Chip.{Chip}
-use Rattle.chip.specs.declared.event.Event.{Event}
 use Rattle.chip.specs.declared.Stepped as chips-own
 use Rattle.chip.specs.Chip as chip
+use Rattle.refusal.specs.declared.Refusal.the-variants.{Clash}
 use Rattle.refusal.specs.Refusal.{answerWord}
-use Rattle.refusal.specs.declared.Answer.the-variants as answer
 use Rattle.board.specs.Place.{placed}
 use Rattle.order.specs.declared.Order.{Order}
 use Rattle.order.specs.declared.Order.the-variants.{ToAll, ToOne}
 use Rattle.order.specs.Order.{reaches, eventOf}
 use Rattle.order.specs.Hearing.{clashesWith}
 use Rattle.lineup.specs.Chips.{chipAt, controlAt}
-use Rattle.line.specs.declared.Played.{Played}
 use Rattle.line.specs.Line.{heard, clash, play, lineReply}
 use Rattle.bus.specs.declared.Stepped.{Stepped}
-use Rattle.bus.specs.Step.{played, step}
+use Rattle.bus.specs.Step.{refused, played, step}
 use Rattle.bus.proofs.Entry.{Entered, entered}
-use Rattle.promises.specs.Own.{own, gathered}
+use Rattle.promises.specs.Own.{own}
 use Rattle.promises.proofs.Chips.{answer-is-gathered}
 use Rattle.promises.proofs.Replies.{one-speaks}
 use Rattle.turns.specs.Alone.{World, alone, renamed}
@@ -91,13 +90,25 @@ module _ (world : World) (e : Entering world) (k : ℕ) (below : k < world .0 .c
   unfolding upTo
   clash-alone = rw (event-only order) (or-false _ ∙ sym clash-is-its-own)
 
-  -- played, k has made its own step
-  line-plays : clash (eventOf order) count chips ≡ false → alone k (afterOne step world word) ≡ (onlyBus (taken .0 .chip), taken .1, taken .2)
-  line-plays is = each-moves world word order e (asked .0) is k below ∙ rw reached
+  -- so what is the same of both refused, and of both played, is the same of both
+  both-step : {A : Type 0} (f g : Stepped × List ℕ × List ℕ → A)
+      → f (refused Clash (world .0) (world .1) (world .2)) ≡ g (refused Clash (alone k world .0) (alone k world .1) (alone k world .2))
+      → (clash (eventOf order) count chips ≡ false
+      → f (played order (world .0) (world .1) (world .2)) ≡ g (played (only order) (alone k world .0) (alone k world .1) (alone k world .2)))
+      → f (stepped step world word) ≡ g (stepped step (alone k world) (renamed word))
+  both-step {A} f g refusing playing = go (clash (eventOf order) count chips) refl
+    where
+      go : (b : Bool) → clash (eventOf order) count chips ≡ b → f (stepped step world word) ≡ g (stepped step (alone k world) (renamed word))
+      go true is =
+          ap f (step-clashes world word order e (asked .0) is)
+          ∙ refusing
+          ∙ sym (ap g (step-clashes (alone k world) (renamed word) (only order) by-itself (asked .1) (clash-alone ∙ is)))
+      go false is =
+          ap f (step-plays world word order e (asked .0) is)
+          ∙ playing is
+          ∙ sym (ap g (step-plays (alone k world) (renamed word) (only order) by-itself (asked .1) (clash-alone ∙ is)))
 
-  only-plays : clash (eventOf order) count chips ≡ false → stepped step (alone k world) (renamed word) ≡ played (only order) (alone k world .0) (alone k world .1) (alone k world .2)
-  only-plays is = step-plays (alone k world) (renamed word) (only order) by-itself (asked .1) (clash-alone ∙ is)
-
+  -- played alone, k has made its own step
   alone-played : play (only order) 1 (onlyBus c .chips) (alone k world .1) (alone k world .2) ≡ (record { chips = onlyBus (taken .0 .chip) .chips; said = taken .0 .said }, taken .1, taken .2)
   alone-played =
       alone-plays (only order) c (alone k world .1) (alone k world .2) (shares-fit world (e .enters) k below) (reaches-only order)
@@ -105,32 +116,23 @@ module _ (world : World) (e : Entering world) (k : ℕ) (below : k < world .0 .c
 
   pub alone-moves : alone k (afterOne step world word) ≡ afterOne step (alone k world) (renamed word)
   unfolding played
-  alone-moves = go (clash (eventOf order) count chips) refl
-    where
-      go : (b : Bool) → clash (eventOf order) count chips ≡ b → alone k (afterOne step world word) ≡ afterOne step (alone k world) (renamed word)
-      go true is =
-          ap (λ (next : Stepped × List ℕ × List ℕ). alone k (ledTo next)) (step-clashes world word order e (asked .0) is)
-          ∙ sym (ap ledTo (step-clashes (alone k world) (renamed word) (only order) by-itself (asked .1) (clash-alone ∙ is)))
-      go false is = line-plays is ∙ sym (ap ledTo (only-plays is) ∙ rw alone-played)
+  alone-moves =
+      both-step (λ next. alone k (ledTo next)) ledTo refl λ is.
+      sym (ap (λ next. alone k (ledTo next)) (step-plays world word order e (asked .0) is))
+      ∙ each-moves world word order e (asked .0) is k below
+      ∙ rw (reached, alone-played)
 
   -- where no other chip says anything, k is heard
-  pub answers-alike : (clash (eventOf order) (world .0 .count) (world .0 .chips) ≡ false → (j : ℕ) → j < world .0 .count → (j ≡ k → ⊥) → own order (world .0 .chips) (world .1) (world .2) j .0 .said ≡ Nothing)
+  pub answers-alike : ((j : ℕ) → j < world .0 .count → (j ≡ k → ⊥) → own order (world .0 .chips) (world .1) (world .2) j .0 .said ≡ Nothing)
       → answerTo step world word ≡ answerTo step (alone k world) (renamed word)
   unfolding played
-  answers-alike silent = go (clash (eventOf order) count chips) refl
+  answers-alike silent =
+      both-step (λ next. answerWord (next .0 .answer)) (λ next. answerWord (next .0 .answer)) refl λ is.
+      ap (λ (said : Said). wordOf 0 (lineReply (eventOf order) said)) heard-alone ∙ rw (event-only order, alone-played)
     where
-      heard-alone : clash (eventOf order) count chips ≡ false → play order count chips (world .1) (world .2) .0 .said ≡ taken .0 .said
-      heard-alone is =
+      heard-alone : play order count chips (world .1) (world .2) .0 .said ≡ taken .0 .said
+      heard-alone =
           answer-is-gathered order count chips (world .1) (world .2) (e .four) (entry .array-fits) (entry .security-fits)
           ∙ one-speaks (λ (i : ℕ). own order chips (world .1) (world .2) i .0 .said) (placed count) k (omega (arith, entry .all-placed))
-          (λ j before differ. silent is j (omega (arith, entry .all-placed)) differ)
+          (λ j before differ. silent j (omega (arith, entry .all-placed)) differ)
           ∙ rw reached
-
-      go : (b : Bool) → clash (eventOf order) count chips ≡ b → answerTo step world word ≡ answerTo step (alone k world) (renamed word)
-      go true is =
-          ap (λ (next : Stepped × List ℕ × List ℕ). answerWord (next .0 .answer)) (step-clashes world word order e (asked .0) is)
-          ∙ sym (ap (λ (next : Stepped × List ℕ × List ℕ). answerWord (next .0 .answer)) (step-clashes (alone k world) (renamed word) (only order) by-itself (asked .1) (clash-alone ∙ is)))
-      go false is =
-          ap (λ (next : Stepped × List ℕ × List ℕ). answerWord (next .0 .answer)) (step-plays world word order e (asked .0) is)
-          ∙ ap (λ (said : Said). answerWord (answer.Done (lineReply (eventOf order) said))) (heard-alone is)
-          ∙ sym (ap (λ (next : Stepped × List ℕ × List ℕ). answerWord (next .0 .answer)) (only-plays is) ∙ rw (event-only order, alone-played))

@@ -7,10 +7,11 @@ mod Resting
 mod During
 mod Others
 mod Turn
-pub mod Whole
+pub mod OneTurn
 mod Lists
 mod Same
 pub mod Turns
 pub mod Acknowledged
 pub mod Undisturbed
 pub mod Ran
+pub mod Setup

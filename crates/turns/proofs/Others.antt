@@ -19,15 +19,15 @@ use Rattle.lineup.specs.Chips.{chipAt, controlAt}
 use Rattle.turns.specs.Idle.{isAtRest}
 use Rattle.turns.specs.Turn.{Anything, AddressByte, ChoiceByte, isAddressOf, isFirstByte}
 use Rattle.turns.specs.Alone.{World, alone}
-use Rattle.turns.proofs.Bystander.{hears-start, hears-call, passes-first, passes-choice, passes-byte, passes-read, passes-stop, rest-clashes, lifted-sends-nothing}
+use Rattle.turns.proofs.Bystander.{hears-start, hears-f8, passes-first, passes-choice, passes-byte, passes-read, passes-stop, rest-clashes, lifted-sends-nothing}
 use Rattle.turns.proofs.During.{SitsThrough}
 
 -- what they say to most events, and to F8h
 abbrev pub silent : Chip → Said
 silent c = Nothing
 
-abbrev pub called : Chip → Said
-called c = cond (isBusy (c .control .phase)) Nothing Ack
+abbrev pub toF8 : Chip → Said
+toF8 c = cond (isBusy (c .control .phase)) Nothing Ack
 
 -- the chips beside k when its turn begins: at rest, with marks, and no address byte of k is theirs
 pub record Others (k : ℕ) (place : Place) (began : World) : Type 0 where
@@ -73,8 +73,8 @@ module _ (k : ℕ) (place : Place) (began : World) (b : Others k place began) (j
   sits-first byte is =
       (lifted-sends-nothing c rest marks AddressByte, passes-first c rest marks a s place byte (b .unshared j before differ) is)
 
-  pub sits-call : SitsThrough (ToAll (Sent 0xF8)) AddressByte ChoiceByte called j began
-  sits-call = (lifted-sends-nothing c rest marks AddressByte, hears-call c rest marks a s)
+  pub sits-f8 : SitsThrough (ToAll (Sent 0xF8)) AddressByte ChoiceByte toF8 j began
+  sits-f8 = (lifted-sends-nothing c rest marks AddressByte, hears-f8 c rest marks a s)
 
   pub sits-choice : (byte : ℕ) → isAddressOf 0b1010 place byte ≡ true → SitsThrough (ToAll (Sent byte)) ChoiceByte Anything silent j began
   sits-choice byte is =

@@ -25,8 +25,8 @@ use Rattle.bus.specs.Run.{Tape, run, outcome}
 use Rattle.bus.proofs.Bus.run.Kinds as run-kinds
 use Rattle.bus.proofs.Bus.run.Reads as run-reads
 use Rattle.promises.proofs.Runs.{stepAt, run-is-its-steps}
-use Rattle.turns.specs.Turn.{Turn}
-use Rattle.turns.specs.Shuffle.{eventsOf, Shuffle, answerOf, isCall, isAfterStart, isExcepted}
+use Rattle.turns.specs.Turn.{Turn, isStart, isF8}
+use Rattle.turns.specs.Shuffle.{eventsOf, Shuffle, answerOf, isExcepted}
 use Rattle.turns.specs.Alone.{World, alone, ownTurns}
 use Rattle.turns.specs.Playing.{after, answersTo, Ending}
 use Rattle.turns.specs.Undisturbed.{Idle, Turns, Alike, AsAlone, isSomeFree}
@@ -132,13 +132,14 @@ own-answer {world} {turns} back k j i =
     ∙ ap (λ (own : List (List ℕ)). getD (getD own j []) i 0) (answers-past k turns _ _ (answers-length step world (eventsOf turns)))
 
 excepted-inside : (events : List ℕ) (i : ℕ) → isExcepted events i ≡ true → i < length events
-excepted-inside events i is = go (decLt i (length events))
+excepted-inside events zero is = absurd (false≢true is)
+excepted-inside events (suc i) is = go (decLt (suc i) (length events))
   where
-    go : Dec (i < length events) → i < length events
+    go : Dec (suc i < length events) → suc i < length events
     go (yes p) = p
     go (no p) =
-        let here : isCall (getD events i 0) ≡ true = and-right (isAfterStart false events i) _ is in
-        absurd (false≢true (rw (List·getD-eq-default events 0 {n = i} (omega arith)) at here))
+        let here : isF8 (getD events (suc i) 0) ≡ true = and-right (isStart (getD events i 0)) _ is in
+        absurd (false≢true (rw (List·getD-eq-default events 0 {n = suc i} (omega arith)) at here))
 
 module _ (world : World) (idle : Idle world) (turns : List Turn) (are-turns : Turns world turns) where
   -- a call of a list of turns, and a call of a shuffle of it, each with a buffer of its own

@@ -168,16 +168,16 @@ pub heeding-sends-nothing : (phase : Phase) → isHeeding phase ≡ true → isS
 heeding-sends-nothing phase heeding = heeds phase heeding (λ (p : Phase). isSending p ≡ false) refl refl
 
 module _ (c : Chip) (a s : List ℕ) (heeding : isHeeding (c .control .phase) ≡ true) where
-  pub call-heeds : isSending (step c a s (Sent 0xF8) .0 .chip .control .phase) ≡ false
+  pub f8-heeds : isSending (step c a s (Sent 0xF8) .0 .chip .control .phase) ≡ false
   unfolding step taking.take takeAddress callOf
-  call-heeds =
+  f8-heeds =
       heeds (c .control .phase) heeding (λ (p : Phase). isSending (taking.takeIn p (c .control) 0xF8 .control .phase) ≡ false)
       refl
       (heeding-sends-nothing (c .control .phase) heeding)
 
-  pub call-said : step c a s (Sent 0xF8) .0 .said ≡ cond (isBusy (c .control .phase)) Nothing Ack
+  pub f8-said : step c a s (Sent 0xF8) .0 .said ≡ cond (isBusy (c .control .phase)) Nothing Ack
   unfolding step taking.take takeAddress callOf
-  call-said =
+  f8-said =
       heeds (c .control .phase) heeding (λ (p : Phase). taking.takeIn p (c .control) 0xF8 .said ≡ cond (isBusy p) Nothing Ack)
       refl
       refl

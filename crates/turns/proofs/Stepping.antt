@@ -11,11 +11,10 @@ use Rattle.refusal.specs.declared.Refusal.the-variants.{Clash}
 use Rattle.refusal.specs.declared.Verdict.{Verdict}
 use Rattle.refusal.specs.declared.Verdict.the-variants.{Passed, Refused}
 use Rattle.refusal.specs.Checks.{firstOf}
-use Rattle.board.specs.declared.Place.{Place}
 use Rattle.order.specs.declared.Order.{Order}
 use Rattle.order.specs.Order.{eventOf}
 use Rattle.lineup.specs.Chips.{chipAt, placesOf}
-use Rattle.line.specs.Line.{clash, play}
+use Rattle.line.specs.Line.{clash}
 use Rattle.bus.specs.declared.Stepped.{Stepped}
 use Rattle.bus.specs.Step.{entryChecks, eventChecks, refused, played, stepBy, event, step}
 use Rattle.bus.proofs.Entry.{Entered, entered}

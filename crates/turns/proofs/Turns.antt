@@ -2,23 +2,22 @@
 -- gets the answers that it gets there.
 use Prim.Native.Nat.{ℕ, zero, suc, _<_, _≤_}
 use native.Mathlib.Omega.{arith}
-use mathlib.Core.Bool.{Bool, true, false, cond, _&&_}
-use mathlib.Core.List.{List, [], _∷_, _++_, map}
+use mathlib.Core.Bool.{Bool, true, false, cond}
+use mathlib.Core.List.{List, [], _∷_, map}
 use mathlib.Core.Path.{_≡_, _∙_, refl, sym, ap, subst}
-use lib.Dec.{eqb, ltb}
-use lib.ListN.{length, getD, take, drop}
-use borrow.Author.Tests.{eqb-true, eqb-false, ltb-true}
+use lib.Dec.{eqb}
+use lib.ListN.{getD}
+use borrow.Author.Tests.{eqb-true, eqb-false}
 use Rattle.base.proofs.Fold.{and-left, and-right}
-use Rattle.board.specs.declared.Place.{Place}
 use Rattle.lineup.specs.Chips.{chipAt, placesOf}
 use Rattle.bus.specs.Step.{step}
-use Rattle.turns.specs.Turn.{Turn, isTurn, isTurnAt}
-use Rattle.turns.specs.Shuffle.{areTurns, eventsOf, turnsOf, turnOf, answersOf, answerOf, isExcepted}
+use Rattle.turns.specs.Turn.{Turn, isTurn}
+use Rattle.turns.specs.Shuffle.{areTurns, eventsOf, turnsOf, answersOf, isExcepted}
 use Rattle.turns.specs.Alone.{World, alone, renamed, ownTurns}
-use Rattle.turns.specs.Playing.{after, answersTo, ending}
-use Rattle.turns.specs.Undisturbed.{Idle, Turns, AsAlone}
+use Rattle.turns.specs.Playing.{after, answersTo}
+use Rattle.turns.specs.Undisturbed.{Idle, Turns}
 use Rattle.turns.proofs.Lists.{after-append, answers-cut}
-use Rattle.turns.proofs.Whole.{Leaves, turn-leaves}
+use Rattle.turns.proofs.OneTurn.{Leaves, turn-leaves}
 
 -- a turn as its chip has it alone
 abbrev alike : List ℕ → Turn

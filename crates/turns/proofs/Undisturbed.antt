@@ -3,10 +3,9 @@
 use Prim.Native.Nat.{ℕ, _<_, _≤_}
 use native.Mathlib.Decide.{decLt}
 use native.Mathlib.Omega.{arith}
-use mathlib.Core.Bool.{true, false, cond}
+use mathlib.Core.Bool.{true, false}
 use mathlib.Core.List.{List, [], _∷_, map}
 use mathlib.Core.Path.{_≡_, _∙_, refl, sym, ap}
-use lib.Dec.{eqb, ltb}
 use lib.ListN.{length, getD, drop}
 use borrow.Author.Tests.{ltb-true, ne-eqb}
 use Rattle.base.proofs.Fold.{and-left, and-right}
@@ -14,14 +13,14 @@ use Rattle.board.specs.declared.Place.{Place}
 use Rattle.lineup.specs.Chips.{placesOf}
 use Rattle.bus.specs.Step.{step}
 use Rattle.turns.specs.Turn.{Turn, isTurn}
-use Rattle.turns.specs.Shuffle.{areTurns, eventsOf, turnsOf, Shuffle, turnOf, answersOf, answerOf, isExcepted}
-use Rattle.turns.specs.Alone.{World, alone, renamed, ownTurns}
+use Rattle.turns.specs.Shuffle.{areTurns, eventsOf, Shuffle, turnOf, answersOf, answerOf, isExcepted}
+use Rattle.turns.specs.Alone.{World, alone, ownTurns}
 use Rattle.turns.specs.Playing.{after, answersTo, ending}
-use Rattle.turns.specs.Undisturbed.{Idle, Turns, Alike, AsAlone, Undisturbed}
+use Rattle.turns.specs.Undisturbed.{Idle, Turns, AsAlone, Undisturbed}
 use Rattle.turns.proofs.Lists.{shuffle-turns}
 use Rattle.turns.proofs.Same.{same-world}
 use Rattle.turns.proofs.Turns.{turns-pass, ends-alone, answers-alone}
-use Rattle.turns.proofs.Acknowledged.{call-acknowledged}
+use Rattle.turns.proofs.Acknowledged.{f8-acknowledged}
 
 -- a chip past the count has no turn
 no-answers : (count : ℕ) (places : List Place) (k : ℕ) (turns : List Turn) (answers : List ℕ) → areTurns count places turns ≡ true → count ≤ k → answersOf k turns answers ≡ []
@@ -77,5 +76,5 @@ undisturbed =
       shuffled = λ world turns others idle are shuffle.
           record { ends = ends-same world turns others idle are shuffle; answers = answers-same world turns others idle are shuffle };
       by-itself = by-itself;
-      excepted = λ world turns idle are. call-acknowledged (eventsOf turns) world (record { four = idle .four; enters = idle .enters });
+      excepted = λ world turns idle are. f8-acknowledged (eventsOf turns) world (record { four = idle .four; enters = idle .enters });
     }

@@ -5,9 +5,8 @@ use mathlib.Core.List.{List, [], _∷_, _++_}
 use mathlib.Core.Path.{_≡_}
 use lib.Dec.{eqb}
 use lib.ListN.{length, getD, take, drop}
-use Rattle.base.specs.Word.{wordOf}
 use Rattle.board.specs.declared.Place.{Place}
-use Rattle.turns.specs.Turn.{Turn, isStart, isTurn}
+use Rattle.turns.specs.Turn.{Turn, isStart, isF8, isTurn}
 
 unfoldable pub areTurns : ℕ → List Place → List Turn → Bool
 areTurns count places [] = true
@@ -42,15 +41,7 @@ answersOf k (turn ∷ rest) answers =
 abbrev pub answerOf : ℕ → List Turn → List ℕ → ℕ → ℕ → ℕ
 answerOf k turns answers j i = getD (getD (answersOf k turns answers) j []) i 0
 
--- F8h
-abbrev pub isCall : ℕ → Bool
-isCall word = eqb word (wordOf 3 0xF8)
-
--- event i stands straight after a Start; `first` says whether the first event does
-abbrev pub isAfterStart : Bool → List ℕ → ℕ → Bool
-isAfterStart first events zero = first
-isAfterStart first events (suc i) = isStart (getD events i 0)
-
 -- the one excepted answer is that to F8h straight after a Start
 abbrev pub isExcepted : List ℕ → ℕ → Bool
-isExcepted events i = isAfterStart false events i && isCall (getD events i 0)
+isExcepted events zero = false
+isExcepted events (suc i) = isStart (getD events i 0) && isF8 (getD events (suc i) 0)

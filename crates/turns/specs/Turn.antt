@@ -26,6 +26,10 @@ isStop word = eqb word (wordOf 2 0)
 abbrev pub isSent : ℕ → Bool
 isSent word = eqb (kindOf word) 3
 
+-- the byte F8h
+abbrev pub isF8 : ℕ → Bool
+isF8 word = eqb word (wordOf 3 0xF8)
+
 abbrev pub isRead : ℕ → Bool
 isRead word = eqb (kindOf word) 4 && leb (valueOf word) 1
 
@@ -54,8 +58,8 @@ goesOn place k Anything (word ∷ more) =
     (cond (isStart word) (goesOn place k AddressByte more)
     ((isSent word || (isRead word || isNaming k word)) && goesOn place k Anything more))
 goesOn place k AddressByte (word ∷ more) =
-    isSent word
-    && cond (eqb (valueOf word) 0xF8) (goesOn place k ChoiceByte more) (isFirstByte place (valueOf word) && goesOn place k Anything more)
+    cond (isF8 word) (goesOn place k ChoiceByte more)
+    (isSent word && (isFirstByte place (valueOf word) && goesOn place k Anything more))
 goesOn place k ChoiceByte (word ∷ more) = isSent word && (isAddressOf 0b1010 place (valueOf word) && goesOn place k Anything more)
 
 unfoldable pub isTurnAt : Place → ℕ → List ℕ → Bool

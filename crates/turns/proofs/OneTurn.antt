@@ -1,5 +1,6 @@
--- One turn on an idle bus, whole: what all of demand 3 is made of.
-use Prim.Native.Nat.{ℕ, _+_, _<_, _≤_}
+-- One turn on an idle bus: the bus is idle again, the other chips and their shares are as they were, and chip k, its shares and the answers
+-- are those of k alone on the line. All of demand 3 is made of this.
+use Prim.Native.Nat.{ℕ, zero, suc, _+_, _<_, _≤_}
 use native.Mathlib.Decide.{decLt}
 use native.Mathlib.Omega.{arith}
 use mathlib.Core.Bool.{Bool, true, false, cond, _&&_, and-comm, false≢true}
@@ -8,7 +9,6 @@ use mathlib.Core.Path.{_≡_, _∙_, refl, ap, subst}
 use lib.Dec.{eqb, ltb}
 use lib.ListN.{length, getD}
 use borrow.Author.Tests.{eqb-true, eqb-false, ltb-true}
-use Rattle.base.specs.Fold.{allBelow}
 use Rattle.base.proofs.Fold.{and-left, and-right, all-at, all-each, any-pair-none}
 use Rattle.parts.specs.Part.{geometryOf}
 use Rattle.parts.specs.Address.{codesOf, firstCode, shareAddress}
@@ -17,20 +17,20 @@ use Rattle.board.specs.declared.Place.{Place}
 use Rattle.board.specs.Place.{placeAt, placed}
 use Rattle.board.specs.Board.{sharedAddress, boardChecks, boardVerdict}
 use Rattle.board.specs.Shares.{figuresAt}
-use Rattle.lineup.specs.Chips.{chipAt, controlAt, placeOf, placesOf}
+use Rattle.lineup.specs.Chips.{chipAt, placesOf}
 use Rattle.lineup.proofs.Laws.{place-at}
 use Rattle.bus.specs.Step.{step}
 use Rattle.bus.proofs.Entry.{Entered, entered}
 use Rattle.promises.proofs.Formed.{none-holds, formed-of}
 use Rattle.turns.specs.Idle.{isAtRest, isIdle}
-use Rattle.turns.specs.Turn.{Turn, Next, Anything, AddressByte, isStart, isNaming, goesOn, isTurnAt, isTurn}
+use Rattle.turns.specs.Turn.{Turn, Anything, AddressByte, isStart, isNaming, goesOn, isTurnAt, isTurn}
 use Rattle.turns.specs.Shuffle.{isExcepted}
 use Rattle.turns.specs.Alone.{World, alone, renamed}
 use Rattle.turns.specs.Playing.{after, answersTo}
 use Rattle.turns.specs.Undisturbed.{Idle}
 use Rattle.turns.proofs.Others.{Others}
-use Rattle.turns.proofs.During.{During}
-use Rattle.turns.proofs.Turn.{Went, goes-on, start-goes, named-goes}
+use Rattle.turns.proofs.During.{During, excepted, Went}
+use Rattle.turns.proofs.Turn.{goes-on, start-goes, named-goes}
 
 -- two chips match one address byte, whichever is named first
 shared-sym : (places : List Place) (i j : ℕ) → sharedAddress places i j ≡ sharedAddress places j i
@@ -106,7 +106,7 @@ module _ (began : World) (idle : Idle began) where
           → (rest : List ℕ) → more ≡ rest
           → Went k false (word ∷ more) began began
       go true starts held rest none = start-goes k (placeAt places k) began (others k below) word more false began (goes-on k (placeAt places k) began (others k below) more) starts held (begins k)
-      go false starts held [] none = rw none (named-goes k (placeAt places k) began (others k below) word false (and-left _ _ held) (begins k))
+      go false starts held [] none = rw none (named-goes k (placeAt places k) began (others k below) word (and-left _ _ held) (begins k))
       go false starts held (other ∷ rest) none = let long : length more ≡ 0 = eqb-true _ _ (and-right (isNaming k word) _ held) in absurd (omega (arith, rw none at long))
 
 -- what a turn of chip k leaves
@@ -131,9 +131,13 @@ turn-leaves began idle turn is =
       rest = now .rest;
       others = now .others;
       own = whole .moves;
-      answers = whole .answers;
+      answers = λ i usual. whole .answers i (plain i usual);
     }
   where
+    plain : (i : ℕ) → isExcepted (turn .events) i ≡ false → excepted false (turn .events) i ≡ false
+    plain zero usual = refl
+    plain (suc i) usual = usual
+
     k : ℕ
     k = turn .chip
 

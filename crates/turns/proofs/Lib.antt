@@ -6,6 +6,8 @@ mod Bystander
 mod Resting
 mod During
 mod Others
+mod Grammar
+pub mod Allowed
 mod Turn
 pub mod OneTurn
 mod Lists
@@ -15,3 +17,7 @@ pub mod Acknowledged
 pub mod Undisturbed
 pub mod Ran
 pub mod Setup
+mod Computing
+pub mod Examples
+mod OneCounter
+pub mod Teeth

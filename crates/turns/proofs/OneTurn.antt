@@ -3,11 +3,11 @@
 use Prim.Native.Nat.{ℕ, zero, suc, _+_, _<_, _≤_}
 use native.Mathlib.Decide.{decLt}
 use native.Mathlib.Omega.{arith}
-use mathlib.Core.Bool.{Bool, true, false, cond, _&&_, and-comm, false≢true}
-use mathlib.Core.List.{List, [], _∷_, map}
+use mathlib.Core.Bool.{Bool, true, false, and-comm}
+use mathlib.Core.List.{List, map}
 use mathlib.Core.Path.{_≡_, _∙_, refl, ap, subst}
 use lib.Dec.{eqb, ltb}
-use lib.ListN.{length, getD}
+use lib.ListN.{getD}
 use borrow.Author.Tests.{eqb-true, eqb-false, ltb-true}
 use Rattle.base.proofs.Fold.{and-left, and-right, all-at, all-each, any-pair-none}
 use Rattle.parts.specs.Part.{geometryOf}
@@ -23,14 +23,16 @@ use Rattle.bus.specs.Step.{step}
 use Rattle.bus.proofs.Entry.{Entered, entered}
 use Rattle.promises.proofs.Formed.{none-holds, formed-of}
 use Rattle.turns.specs.Idle.{isAtRest, isIdle}
-use Rattle.turns.specs.Turn.{Turn, Anything, AddressByte, isStart, isNaming, goesOn, isTurnAt, isTurn}
+use Rattle.turns.specs.Turn.{Turn, Anything, isTurnAt, isTurn}
 use Rattle.turns.specs.Shuffle.{isExcepted}
 use Rattle.turns.specs.Alone.{World, alone, renamed}
 use Rattle.turns.specs.Playing.{after, answersTo}
 use Rattle.turns.specs.Undisturbed.{Idle}
+use Rattle.turns.proofs.Stepping.{entering}
 use Rattle.turns.proofs.Others.{Others}
 use Rattle.turns.proofs.During.{During, excepted, Went}
-use Rattle.turns.proofs.Turn.{goes-on, start-goes, named-goes}
+use Rattle.turns.proofs.Grammar.{turn-by-cases}
+use Rattle.turns.proofs.Turn.{Leads, named-leads, each-leads}
 
 -- two chips match one address byte, whichever is named first
 shared-sym : (places : List Place) (i j : ℕ) → sharedAddress places i j ≡ sharedAddress places j i
@@ -88,7 +90,7 @@ module _ (began : World) (idle : Idle began) where
   begins : (k : ℕ) → During k Anything began began
   begins k =
       record {
-        entering = record { four = idle .four; enters = idle .enters };
+        entering = entering idle;
         marks = idle .marks;
         count = refl;
         board = refl;
@@ -98,16 +100,13 @@ module _ (began : World) (idle : Idle began) where
       }
 
   went : (k : ℕ) (events : List ℕ) → k < count → isTurnAt (placeAt places k) k events ≡ true → Went k false events began began
-  unfolding isTurnAt
-  went k [] below is = absurd (false≢true is)
-  went k (word ∷ more) below is = go (isStart word) refl is more refl
-    where
-      go : (starts : Bool) → isStart word ≡ starts → cond starts (goesOn (placeAt places k) k AddressByte more) (isNaming k word && eqb (length more) 0) ≡ true
-          → (rest : List ℕ) → more ≡ rest
-          → Went k false (word ∷ more) began began
-      go true starts held rest none = start-goes k (placeAt places k) began (others k below) word more false began (goes-on k (placeAt places k) began (others k below) more) starts held (begins k)
-      go false starts held [] none = rw none (named-goes k (placeAt places k) began (others k below) word (and-left _ _ held) (begins k))
-      go false starts held (other ∷ rest) none = let long : length more ≡ 0 = eqb-true _ _ (and-right (isNaming k word) _ held) in absurd (omega (arith, rw none at long))
+  went k events below =
+      let place = placeAt places k in
+      turn-by-cases place k (Leads k place began (others k below)) (each-leads k place began (others k below))
+      (λ (turn : List ℕ). Went k false turn began began)
+      (λ run leads. leads false began tt (begins k))
+      (λ word is. named-leads k place began (others k below) word is (begins k))
+      events
 
 -- what a turn of chip k leaves
 pub record Leaves (began : World) (k : ℕ) (events : List ℕ) : Type 0 where

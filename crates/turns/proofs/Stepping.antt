@@ -24,6 +24,7 @@ use Rattle.promises.proofs.Kept.{places-kept, entry-kept}
 use Rattle.promises.proofs.Runs.{step-is-event}
 use Rattle.turns.specs.Alone.{World, alone}
 use Rattle.turns.specs.Playing.{stepped, afterOne}
+use Rattle.turns.specs.Undisturbed.{Idle}
 use Rattle.turns.proofs.Asked.{Legal}
 use Rattle.turns.proofs.Alone.{onlyBus}
 
@@ -31,6 +32,9 @@ use Rattle.turns.proofs.Alone.{onlyBus}
 pub record Entering (world : World) : Type 0 where
   pub four : length (world .0 .chips) ≡ 4
   pub enters : firstOf (entryChecks (world .0) (world .1) (world .2)) ≡ Passed
+
+pub entering : {world : World} → Idle world → Entering world
+entering idle = record { four = idle .four; enters = idle .enters }
 
 -- where a step has led
 abbrev pub ledTo : Stepped × List ℕ × List ℕ → World

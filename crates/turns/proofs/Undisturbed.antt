@@ -16,7 +16,9 @@ use Rattle.turns.specs.Turn.{Turn, isTurn}
 use Rattle.turns.specs.Shuffle.{areTurns, eventsOf, Shuffle, turnOf, answersOf, answerOf, isExcepted}
 use Rattle.turns.specs.Alone.{World, alone, ownTurns}
 use Rattle.turns.specs.Playing.{after, answersTo, ending}
+use Rattle.turns.specs.Faults.{ours}
 use Rattle.turns.specs.Undisturbed.{Idle, Turns, AsAlone, Undisturbed}
+use Rattle.turns.proofs.Stepping.{entering}
 use Rattle.turns.proofs.Lists.{shuffle-turns}
 use Rattle.turns.proofs.Same.{same-world}
 use Rattle.turns.proofs.Turns.{turns-pass, ends-alone, answers-alone}
@@ -70,11 +72,11 @@ module _ (world : World) (turns others : List Turn) (idle : Idle world) (are : T
             no-answers (world .0 .count) (placesOf (world .0 .chips)) k others (answersTo step world (eventsOf others)) are-too (omega arith),
           )
 
-pub undisturbed : Undisturbed step
+pub undisturbed : Undisturbed ours
 undisturbed =
     record {
       shuffled = λ world turns others idle are shuffle.
           record { ends = ends-same world turns others idle are shuffle; answers = answers-same world turns others idle are shuffle };
       by-itself = by-itself;
-      excepted = λ world turns idle are. f8-acknowledged (eventsOf turns) world (record { four = idle .four; enters = idle .enters });
+      excepted = λ world turns idle are. f8-acknowledged (eventsOf turns) world (entering idle);
     }

@@ -1,0 +1,166 @@
+-- What demand 3 supposes can be met: a board of mixed parts, a list of turns on it with much of what a turn may hold, and a shuffle of
+-- the list. On a smaller board the answers are computed, a refusal 8 among them.
+use Prim.Native.Nat.{ℕ, zero, suc, _+_, _<_}
+use native.Mathlib.Omega.{arith}
+use mathlib.Core.Bool.{true}
+use mathlib.Core.List.{List, [], _∷_}
+use mathlib.Core.Path.{_≡_, refl, ap}
+use lib.ListN.{length, replicate, length-replicate}
+use borrow.Author.Tests.{ne-eqb}
+use Rattle.base.specs.Fold.{upTo}
+use Rattle.parts.specs.Part.{geometryOf}
+use Rattle.load.specs.Load as load
+use Rattle.control.specs.declared.Control.{Control}
+use Rattle.control.specs.declared.phase.Phase.the-variants.{Busy}
+use Rattle.control.specs.Control.{fresh, inPhase, wpAt}
+use Rattle.chip.specs.declared.Chip.{Chip}
+use Rattle.wellformed.specs.Wellformed as one-chip
+use Rattle.refusal.specs.declared.Verdict.the-variants.{Passed}
+use Rattle.refusal.specs.Checks.{firstOf}
+use Rattle.board.specs.Board.{boardVerdict}
+use Rattle.lineup.specs.Chips.{chipAt, placesOf}
+use Rattle.lineup.specs.Wellformed.{wellFormed}
+use Rattle.bus.specs.declared.Bus.{Bus}
+use Rattle.bus.specs.Setup.{emptyChip}
+use Rattle.bus.specs.Step.{entryChecks, event, step}
+use Rattle.turns.specs.Idle.{isIdle}
+use Rattle.turns.specs.Turn.{Turn}
+use Rattle.turns.specs.Shuffle.{eventsOf, answersOf, Shuffle}
+use Rattle.turns.specs.Alone.{World, alone}
+use Rattle.turns.specs.Playing.{answersTo}
+use Rattle.turns.specs.Undisturbed.{Idle, Turns}
+use Rattle.turns.proofs.Stepping.{entering}
+use Rattle.turns.proofs.Computing.{eventByEvent, computed, none, none-keeps}
+
+-- up to three chips, none of which holds a load
+abbrev withoutLoad : Control → Chip
+withoutLoad c = record { control = c; load = load.empty }
+
+abbrev line : ℕ → Control → Control → Control → Bus
+line count one two three =
+    record { count = count; chips = withoutLoad one ∷ withoutLoad two ∷ withoutLoad three ∷ emptyChip ∷ [] }
+
+line-is-idle : (count : ℕ) (one two three : Control) (array security : List ℕ) → let bus = line count one two three in
+    firstOf (entryChecks bus array security) ≡ Passed → isIdle bus ≡ true → Idle (bus, array, security)
+line-is-idle count one two three array security enters idle =
+    record { four = refl; marks = marks; enters = enters; idle = idle }
+  where
+    marks : (i : ℕ) → i < 4 → length (chipAt (line count one two three .chips) i .load .marks) ≡ 256
+    marks zero below = refl
+    marks (suc zero) below = refl
+    marks (suc (suc zero)) below = refl
+    marks (suc (suc (suc zero))) below = refl
+    marks (suc (suc (suc (suc i)))) below = absurd (omega arith)
+
+none-loaded : load.within 0 load.empty ≡ true
+unfolding load.within upTo
+none-loaded = refl
+
+abbrev pub busy : Control → Control
+busy c = inPhase Busy c
+
+-- a 24CSM01 at strap 1, a 24CS32 at strap 0 that is busy, and a 24CS32 at strap 5 that is protected, with EWPM 0 and WP high
+abbrev mixed : Bus
+mixed = line 3 (fresh 1 1) (busy (fresh 2 0)) (wpAt true (fresh 2 5))
+
+-- the bytes of each store
+abbrev arrays : ℕ
+arrays = 131072 + 4096 + 4096
+
+abbrev securities : ℕ
+securities = 512 + 64 + 64
+
+pub board : World
+board = (mixed, replicate arrays 0xFF, replicate securities 0xFF)
+
+mixed-is-idle : (array security : List ℕ) → length array ≡ arrays → length security ≡ securities → Idle (mixed, array, security)
+unfolding wellFormed boardVerdict placesOf upTo one-chip.wellFormed geometryOf isIdle
+mixed-is-idle array security long short = line-is-idle _ _ _ _ array security (rw (long, short, none-loaded)) (rw none-loaded)
+
+pub board-is-idle : Idle board
+unfolding board
+board-is-idle = mixed-is-idle (replicate arrays 0xFF) (replicate securities 0xFF) (length-replicate {A = ℕ} arrays 0xFF) (length-replicate {A = ℕ} securities 0xFF)
+
+abbrev pub of : ℕ → List ℕ → Turn
+of chip events = record { chip = chip; events = events }
+
+abbrev identifies : Turn
+identifies = of 0 (0x0100 ∷ 0x03F8 ∷ 0x03A4 ∷ 0x0100 ∷ 0x03F9 ∷ 0x0400 ∷ 0x0400 ∷ 0x0401 ∷ 0x0200 ∷ [])
+
+-- a byte is sent while the chip sends: refusal 8
+abbrev clashes : Turn
+clashes = of 0 (0x0100 ∷ 0x03A5 ∷ 0x0300 ∷ 0x0200 ∷ [])
+
+-- a busy chip is asked and does not acknowledge
+abbrev polls : Turn
+polls = of 1 (0x0100 ∷ 0x03A0 ∷ 0x0200 ∷ [])
+
+abbrev cycleEnds : Turn
+cycleEnds = of 1 (0x0701 ∷ [])
+
+abbrev reads : Turn
+reads = of 1 (0x0100 ∷ 0x03A1 ∷ 0x0401 ∷ 0x0200 ∷ [])
+
+abbrev writes : Turn
+writes = of 2 (0x0100 ∷ 0x03AA ∷ 0x0300 ∷ 0x0300 ∷ 0x0377 ∷ 0x0200 ∷ [])
+
+abbrev wpGoesLow : Turn
+wpGoesLow = of 2 (0x0502 ∷ [])
+
+pub turns : List Turn
+turns = identifies ∷ writes ∷ polls ∷ cycleEnds ∷ reads ∷ wpGoesLow ∷ clashes ∷ []
+
+pub others : List Turn
+others = polls ∷ writes ∷ cycleEnds ∷ wpGoesLow ∷ identifies ∷ clashes ∷ reads ∷ []
+
+pub turns-are-turns : Turns board turns
+unfolding board turns eventByEvent
+turns-are-turns = refl
+
+pub others-are-a-shuffle : Shuffle turns others
+unfolding turns others eventByEvent
+others-are-a-shuffle zero = refl
+others-are-a-shuffle (suc zero) = refl
+others-are-a-shuffle (suc (suc zero)) = refl
+others-are-a-shuffle (suc (suc (suc k))) =
+    rw (ne-eqb 0 (suc (suc (suc k))) (omega arith), ne-eqb 1 (suc (suc (suc k))) (omega arith), ne-eqb 2 (suc (suc (suc k))) (omega arith))
+
+-- two 24CS32 at straps 0 and 1, with 5Ah at 000h of the first and FFh elsewhere
+abbrev pub pair : (Control → Control) → (Control → Control) → World
+pair one two = (line 2 (one (fresh 2 0)) (two (fresh 2 1)) (fresh 0 0), 0x5A ∷ replicate 8191 0xFF, replicate 128 0xFF)
+
+abbrev pub free : Control → Control
+free c = c
+
+pub pairs-are-idle : Idle (pair free free) × Idle (pair busy free) × Idle (pair busy busy) × Idle (alone 0 (pair busy free))
+unfolding wellFormed boardVerdict placesOf upTo one-chip.wellFormed geometryOf isIdle
+pairs-are-idle = (
+  line-is-idle _ _ _ _ _ _ (rw none-loaded) (rw none-loaded),
+  line-is-idle _ _ _ _ _ _ (rw none-loaded) (rw none-loaded),
+  line-is-idle _ _ _ _ _ _ (rw none-loaded) (rw none-loaded),
+  line-is-idle _ _ _ _ _ _ (rw none-loaded) (rw none-loaded),
+)
+
+-- the first reads the byte at its counter
+abbrev pub firstReads : Turn
+firstReads = of 0 (0x0100 ∷ 0x03A1 ∷ 0x0401 ∷ 0x0200 ∷ [])
+
+-- so does the second, after a byte that is sent to it: refusal 8
+abbrev secondClashes : Turn
+secondClashes = of 1 (0x0100 ∷ 0x03A3 ∷ 0x0300 ∷ 0x0401 ∷ 0x0200 ∷ [])
+
+-- the answers to the turns of each
+abbrev toEach : List Turn → List ℕ → List (List ℕ) × List (List ℕ)
+toEach list answers = (answersOf 0 list answers, answersOf 1 list answers)
+
+abbrev Answered : List Turn → Type 0
+Answered list =
+    toEach list (answersTo step (pair free free) (eventsOf list))
+    ≡ ((0x0000 ∷ 0x0001 ∷ 0x005A ∷ 0x0000 ∷ []) ∷ [], (0x0000 ∷ 0x0001 ∷ 0x0800 ∷ 0x00FF ∷ 0x0000 ∷ []) ∷ [])
+
+pub answers-in-both-orders : Answered (firstReads ∷ secondClashes ∷ []) × Answered (secondClashes ∷ firstReads ∷ [])
+unfolding eventByEvent
+answers-in-both-orders = (by-events (firstReads ∷ secondClashes ∷ []), by-events (secondClashes ∷ firstReads ∷ []))
+  where
+    by-events : (list : List Turn) → toEach list (answersTo step (pair free free) (eventsOf list)) ≡ toEach list (answersTo event (pair free free) (eventsOf list))
+    by-events list = ap (toEach list) (computed none none-keeps (pair free free) (entering (pairs-are-idle .0)) (eventsOf list) .1)

@@ -1,0 +1,78 @@
+-- The fault of one array counter for the line. It is not seen as a malformed state: a bus that enters still enters with it.
+use Prim.Native.Nat.{ℕ, zero, suc, _%_, _<_}
+use native.Mathlib.Nat.{mod-lt}
+use native.Mathlib.Omega.{arith}
+use mathlib.Core.Bool.{true, _&&_}
+use mathlib.Core.List.{List, [], _∷_, map}
+use mathlib.Core.Path.{_≡_, _∙_, refl, ap}
+use lib.Dec.{ltb}
+use lib.ListN.{length, length-map, set, replicate}
+use borrow.Author.Tests.{lt-ltb}
+use Rattle.base.proofs.Fold.{and-left, and-right, and-both, up-same}
+use Rattle.parts.specs.Part.{geometryOf}
+use Rattle.parts.proofs.part.Laws.{sound-of}
+use Rattle.control.specs.declared.Control.{Control}
+use Rattle.chip.specs.declared.Chip.{Chip}
+use Rattle.wellformed.specs.Wellformed.{isSetUp, countersFit, controlFits}
+use Rattle.wellformed.specs.Wellformed as one-chip
+use Rattle.refusal.specs.declared.Verdict.the-variants.{Passed}
+use Rattle.refusal.specs.Checks.{firstOf}
+use Rattle.board.specs.Place.{nowhere}
+use Rattle.board.proofs.Laws.{placed-most}
+use Rattle.lineup.specs.Chips.{chipAt, controlAt, placeOf, placesOf}
+use Rattle.bus.specs.declared.Bus.{Bus}
+use Rattle.bus.specs.Step.{entryChecks}
+use Rattle.promises.proofs.Formed.{formed-of, of-formed, ready-of, of-ready}
+use Rattle.turns.specs.Faults.{movedTo, shared}
+use Rattle.turns.proofs.Stepping.{Entering}
+use Rattle.turns.proofs.Computing.{Keeps}
+
+module _ (at : ℕ) where
+  each-moves : (chips : List Chip) (i : ℕ) → i < length chips → chipAt (map (movedTo at) chips) i ≡ movedTo at (chipAt chips i)
+  each-moves [] i below = absurd (omega arith)
+  each-moves (c ∷ chips) zero below = refl
+  each-moves (c ∷ chips) (suc i) below = each-moves chips i (omega arith)
+
+  still-formed : (c : Chip) → one-chip.wellFormed c ≡ true → one-chip.wellFormed (movedTo at c) ≡ true
+  unfolding one-chip.wellFormed
+  still-formed c formed =
+      let held : Control = c .control in
+      let size : ℕ = geometryOf (held .part) .array in
+      let sound = sound-of (held .part) in
+      let fits : controlFits held ≡ true = and-left _ _ formed in
+      let front : (isSetUp held && countersFit held) ≡ true = and-left _ _ fits in
+      let counters : countersFit held ≡ true = and-right (isSetUp held) _ front in
+      let inside : ltb (at % size) size ≡ true = lt-ltb _ _ (mod-lt at (omega (arith, sound .zone-eight, sound .zone-some))) in
+      and-both _ _
+      (and-both _ _
+      (and-both _ _ (and-left (isSetUp held) _ front) (and-both _ _ inside (and-right (ltb (held .array) size) _ counters)))
+      (and-right (isSetUp held && countersFit held) _ fits))
+      (and-right (controlFits held) _ formed)
+
+  module _ (bus : Bus) (array security : List ℕ) (four : length (bus .chips) ≡ 4) where
+    abbrev moved : Bus
+    moved = record { count = bus .count; chips = map (movedTo at) (bus .chips) }
+
+    here : (i : ℕ) → i < 4 → chipAt (moved .chips) i ≡ movedTo at (chipAt (bus .chips) i)
+    here i below = each-moves (bus .chips) i (omega (arith, four))
+
+    same-places : placesOf (moved .chips) ≡ placesOf (bus .chips)
+    unfolding placesOf
+    same-places = up-same _ _ 4 (λ i places below. ap (λ (c : Chip). set places i (placeOf (c .control))) (here i below)) (replicate 4 nowhere)
+
+    still-enters : firstOf (entryChecks bus array security) ≡ Passed → Entering (moved, array, security)
+    still-enters passed =
+        let (formed, array-fits, security-fits) = ready-of bus array security passed in
+        let was = formed-of _ _ formed in
+        let most = placed-most (bus .count) in
+        let now =
+        of-formed (bus .count) (moved .chips)
+        (record {
+          set-up = rw same-places (was .set-up);
+          fit = λ i below. rw (here i (omega (arith, most))) (still-formed (chipAt (bus .chips) i) (was .fit i below));
+          apart = λ i j below before. rw (controlAt, here i (omega (arith, most)), here j (omega (arith, most))) (was .apart i j below before);
+        }) in
+        record { four = length-map (bus .chips) (movedTo at) ∙ four; enters = of-ready moved array security (now, rw same-places array-fits, rw same-places security-fits) }
+
+pub shared-keeps : Keeps shared
+shared-keeps world word made e = still-enters _ (made .0 .bus) (made .1) (made .2) (e .four) (e .enters)

@@ -1,0 +1,61 @@
+-- Two of the shortcuts that have cost us, as benches made of a bench; and ours, which takes neither (paper, "Shortcuts that have cost us").
+use Prim.Native.Nat.{ℕ, _%_}
+use mathlib.Core.Bool.{cond}
+use mathlib.Core.List.{List, map}
+use lib.Dec.{eqb}
+use Rattle.base.specs.Fold.{upTo}
+use Rattle.parts.specs.Part.{geometryOf}
+use Rattle.control.specs.Control.{arrayAt}
+use Rattle.chip.specs.declared.Chip.{Chip}
+use Rattle.lineup.specs.Chips.{controlAt}
+use Rattle.bus.specs.declared.Stepped.{Stepped}
+use Rattle.bus.specs.Step.{step}
+use Rattle.turns.specs.Turn.{isF8}
+use Rattle.turns.specs.Alone.{World, alone}
+use Rattle.turns.specs.Playing.{Bench, stepped}
+
+-- a fault changes what was made of a world and an event
+abbrev pub Made : Type 0
+Made = Stepped × List ℕ × List ℕ
+
+abbrev pub Fault : Type 0
+Fault = World → ℕ → Made → Made
+
+abbrev pub with : Fault → Bench → Bench
+with fault bench bus array security word = fault (bus, array, security) word (bench bus array security word)
+
+-- the line's counter after an event: that of a chip whose counter the event has moved, else that of the first
+abbrev pub lineCounter : List Chip → List Chip → ℕ
+lineCounter before now =
+    upTo (λ (i at : ℕ). let mine = controlAt now i .array in cond (eqb (controlAt before i .array) mine) at mine) 4 (controlAt now 0 .array)
+
+-- a chip with its array counter elsewhere, modulo its array
+abbrev pub movedTo : ℕ → Chip → Chip
+movedTo at c = record { control = arrayAt (at % geometryOf (c .control .part) .array) (c .control); load = c .load }
+
+-- one counter for the line: after every event all chips have it
+abbrev pub shared : Fault
+shared world word made =
+    let chips = made .0 .bus .chips in (
+      record {
+        bus = record { count = made .0 .bus .count; chips = map (movedTo (lineCounter (world .0 .chips) chips)) chips };
+        answer = made .0 .answer;
+      },
+      made .1,
+      made .2,
+    )
+
+abbrev pub oneCounter : Bench → Bench
+oneCounter = with shared
+
+-- the F8h acknowledge treated as one chip's own: it is that of the first chip alone
+abbrev pub forFirst : Bench → Fault
+forFirst bench world word made =
+    cond (isF8 word) (record { bus = made .0 .bus; answer = stepped bench (alone 0 world) word .0 .answer }, made .1, made .2) made
+
+abbrev pub ownF8 : Bench → Bench
+ownF8 bench = with (forFirst bench) bench
+
+-- ours is the bus's step
+abbrev pub ours : Bench
+ours = step

@@ -6,6 +6,8 @@ use native.Mathlib.Numerals.{add-one}
 use native.Mathlib.Omega.{arith}
 use mathlib.Core.Bool.{Bool, true, false, _&&_, _||_, false≢true}
 use mathlib.Core.Path.{_≡_, _∙_, refl, sym, ap, subst}
+use lib.Dec.{eqb}
+use borrow.Author.Tests.{eqb-true, eqb-false}
 use Rattle.base.specs.Fold.{upTo, allBelow, anyBelow, allPairs, anyPair}
 
 module _ {A : Type 0} (f : ℕ → A → A) where
@@ -111,6 +113,18 @@ module _ (test : ℕ → Bool) where
       go : (here : Bool) → test n ≡ here → (here || anyBelow test n) ≡ true → (anyBelow test n ≡ true → (i : ℕ) × ((i < n) × (test i ≡ true))) → (i : ℕ) × ((i < suc n) × (test i ≡ true))
       go true is held earlier = (n, (omega arith, is))
       go false is held earlier = let (i, (below, holds)) = earlier held in (i, (omega arith, holds))
+
+  -- a test that fails at every index but one
+  pub any-one : (n k : ℕ) → k < n → ((j : ℕ) → j < n → (j ≡ k → ⊥) → test j ≡ false) → anyBelow test n ≡ test k
+  any-one n k below others = go (test k) refl
+    where
+      at : (j : ℕ) → j < n → (same : Bool) → eqb j k ≡ same → test k ≡ false → test j ≡ false
+      at j before true is none = rw (eqb-true j k is) none
+      at j before false is none = others j before (eqb-false j k is)
+
+      go : (here : Bool) → test k ≡ here → anyBelow test n ≡ here
+      go true is = any-at n k below is
+      go false is = none-any n (λ j before. at j before (eqb j k) refl is)
 
 -- tests of pairs
 module _ (test : ℕ → ℕ → Bool) (n : ℕ) where

@@ -1,17 +1,21 @@
 -- A count fills at most four places, and one that set-up lets through as many as it says. Shares stand end to end, so each ends before
--- the next starts.
+-- the next starts. And sharing an address byte goes both ways.
 use Prim.Native.Nat.{ℕ, zero, suc, _+_, _*_, _^_, _<_, _≤_}
 use native.Mathlib.Decide.{decLt}
 use native.Mathlib.Omega.{arith}
-use mathlib.Core.Bool.{true, false, _&&_}
+use mathlib.Core.Bool.{Bool, true, false, _&&_, and-comm}
+use mathlib.Core.List.{List}
 use mathlib.Core.Path.{_≡_}
-use lib.Dec.{leb}
+use lib.Dec.{ltb, leb}
 use borrow.Author.Tests.{leb-true, not-false}
 use Rattle.base.specs.Fold.{upTo}
 use Rattle.base.proofs.Fold.{and-left, and-right}
 use Rattle.base.proofs.number.Laws.{least-first, least-most}
-use Rattle.board.specs.Place.{placed}
-use Rattle.board.specs.Board.{wrongCount}
+use Rattle.parts.specs.Address.{codesOf, firstCode}
+use Rattle.board.specs.declared.Place.{Place}
+use Rattle.board.specs.Place.{placeAt, placed}
+use Rattle.board.specs.Board.{wrongCount, sharedAddress}
+use Rattle.board.specs.Shares.{figuresAt}
 
 pub placed-most : (count : ℕ) → placed count ≤ 4
 placed-most count = least-most count 4 .1
@@ -42,3 +46,11 @@ pub start-most : (share : ℕ → ℕ) → ((i : ℕ) → share i ≤ 2 ^ 24) �
 unfolding upTo
 start-most share small zero = omega arith
 start-most share small (suc n) = omega (arith, small n, start-most share small n)
+
+-- two chips match one address byte, whichever is named first
+pub shared-sym : (places : List Place) (i j : ℕ) → sharedAddress places i j ≡ sharedAddress places j i
+shared-sym places i j = and-comm (starts-before i j) (starts-before j i)
+  where
+    starts-before : ℕ → ℕ → Bool
+    starts-before i j =
+        ltb (firstCode (figuresAt places i) (placeAt places i .strap)) (firstCode (figuresAt places j) (placeAt places j .strap) + codesOf (figuresAt places j))

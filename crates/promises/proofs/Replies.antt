@@ -44,6 +44,11 @@ acked Nothing other is = absurd (omega arith)
 acked Ack other is = refl
 acked (Byte byte) other is = absurd (true≢false other)
 
+pub after-silence : (said : Said) → heard Nothing said ≡ said
+after-silence Nothing = refl
+after-silence Ack = refl
+after-silence (Byte byte) = refl
+
 -- what a line carries when n chips have spoken
 module _ (says : ℕ → Said) where
   abbrev pub carried : ℕ → Said
@@ -81,11 +86,6 @@ module _ (says : ℕ → Said) where
   one-speaks zero i below others = absurd (omega arith)
   one-speaks (suc n) i below others = go (decLt i n) (λ (p : i < n). one-speaks n i p (λ j before differ. others j (omega arith) differ))
     where
-      after-silence : (said : Said) → heard Nothing said ≡ said
-      after-silence Nothing = refl
-      after-silence Ack = refl
-      after-silence (Byte byte) = refl
-
       go : Dec (i < n) → (i < n → carried n ≡ says i) → heard (carried n) (says n) ≡ says i
       go (yes p) earlier = rw (others n (omega arith) (λ (is : n ≡ i). absurd (omega arith))) (earlier p)
       go (no p) earlier =

@@ -4,7 +4,7 @@ use Prim.Native.Nat.{ℕ, _+_, _<_, _≤_}
 use native.Mathlib.Nat.{zero-add}
 use native.Mathlib.Omega.{arith}
 use mathlib.Core.Bool.{true, _&&_}
-use mathlib.Core.List.{List, [], _∷_, _++_, append-nil}
+use mathlib.Core.List.{List, [], _++_, append-nil}
 use mathlib.Core.Path.{_≡_, _∙_, sym, ap}
 use lib.ListN.{length, take, drop, drop-of-length-le}
 use lib.Seq.{take-all}
@@ -33,16 +33,10 @@ use Rattle.order.specs.Order.{reaches, eventOf}
 use Rattle.lineup.specs.Chips.{chipAt, placesOf}
 use Rattle.lineup.proofs.Laws.{place-at}
 use Rattle.line.specs.Line.{heard, play}
-use Rattle.bus.specs.declared.Bus.{Bus}
-use Rattle.bus.specs.Setup.{emptyChip}
 use Rattle.bus.specs.Step.{entryChecks}
 use Rattle.bus.proofs.Entry.{Entered, entered}
 use Rattle.promises.proofs.Formed.{Formed, formed-of, of-formed, of-ready}
-use Rattle.turns.specs.Alone.{World, alone}
-
--- a bus of one chip
-abbrev pub onlyBus : Chip → Bus
-onlyBus c = record { count = 1; chips = c ∷ emptyChip ∷ emptyChip ∷ emptyChip ∷ [] }
+use Rattle.turns.specs.Alone.{World, onlyBus, alone}
 
 -- stores that are all its own
 abbrev pub Fits : Chip → List ℕ → List ℕ → Type 0

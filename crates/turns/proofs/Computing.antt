@@ -20,9 +20,9 @@ use Rattle.promises.proofs.Runs.{step-is-event}
 use Rattle.turns.specs.Turn.{Turn, isTurnAt, goesOn}
 use Rattle.turns.specs.Shuffle.{areTurns, eventsOf, turnsOf, answersOf, answerOf}
 use Rattle.turns.specs.Alone.{World}
-use Rattle.turns.specs.Playing.{Bench, after, answersTo}
-use Rattle.turns.specs.Faults.{Made, Fault, with}
-use Rattle.turns.proofs.Stepping.{Entering, ledTo, entering-kept}
+use Rattle.turns.specs.Playing.{Bench, after, answersTo, ledTo, Made}
+use Rattle.turns.specs.Faults.{Fault, with}
+use Rattle.turns.proofs.Stepping.{Entering, entering-kept}
 
 -- who unfolds it unfolds all that an event and a turn are made of
 unfoldable pub eventByEvent : Bench

@@ -26,11 +26,10 @@ use Rattle.promises.specs.Own.{own}
 use Rattle.turns.specs.Idle.{isAtRest}
 use Rattle.turns.specs.Turn.{isStart, isF8, Next, Anything, AddressByte, ChoiceByte}
 use Rattle.turns.specs.Shuffle.{isExcepted}
-use Rattle.turns.specs.Alone.{World, alone, renamed}
-use Rattle.turns.specs.Playing.{afterOne, answerTo, after, answersTo}
+use Rattle.turns.specs.Alone.{World, alone, renamed, onlyBus}
+use Rattle.turns.specs.Playing.{afterOne, answerTo, after, answersTo, ledTo}
 use Rattle.turns.proofs.Asked.{Asked}
-use Rattle.turns.proofs.Alone.{onlyBus}
-use Rattle.turns.proofs.Stepping.{Entering, ledTo, entering-kept, step-clashes, count-kept, board-kept, rest-kept, each-moves}
+use Rattle.turns.proofs.Stepping.{Entering, entering-kept, step-clashes, count-kept, board-kept, rest-kept, each-moves}
 use Rattle.turns.proofs.Event.{clash-is-its-own, alone-moves, answers-alike}
 use Rattle.turns.proofs.Bystander.{lifted}
 use Rattle.turns.proofs.Resting.{marks-kept, isHeeding}

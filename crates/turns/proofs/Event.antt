@@ -5,13 +5,11 @@ use native.Mathlib.Omega.{arith}
 use mathlib.Core.Bool.{Bool, true, false, or-false}
 use mathlib.Core.List.{List}
 use mathlib.Core.Path.{_≡_, _∙_, refl, sym, ap}
-use lib.Dec.{eqb}
-use borrow.Author.Tests.{eqb-true, eqb-false}
-use Rattle.base.specs.Fold.{upTo, anyBelow}
+use Rattle.base.specs.Fold.{upTo}
 use Rattle.base.specs.Word.{wordOf}
-use Rattle.base.proofs.Fold.{any-at, none-any}
+use Rattle.base.proofs.Fold.{any-one}
 use Rattle.control.specs.declared.Said.{Said}
-use Rattle.control.specs.declared.Said.the-variants.{Nothing, Ack, Byte}
+use Rattle.control.specs.declared.Said.the-variants.{Nothing}
 use Rattle.chip.specs.declared.Chip.{Chip}
 use Rattle.chip.specs.declared.Stepped as chips-own
 use Rattle.chip.specs.Chip as chip
@@ -23,18 +21,18 @@ use Rattle.order.specs.declared.Order.the-variants.{ToAll, ToOne}
 use Rattle.order.specs.Order.{reaches, eventOf}
 use Rattle.order.specs.Hearing.{clashesWith}
 use Rattle.lineup.specs.Chips.{chipAt, controlAt}
-use Rattle.line.specs.Line.{heard, clash, play, lineReply}
+use Rattle.line.specs.Line.{clash, play, lineReply}
 use Rattle.bus.specs.declared.Stepped.{Stepped}
 use Rattle.bus.specs.Step.{refused, played, step}
 use Rattle.bus.proofs.Entry.{Entered, entered}
 use Rattle.promises.specs.Own.{own}
 use Rattle.promises.proofs.Chips.{answer-is-gathered}
-use Rattle.promises.proofs.Replies.{one-speaks}
-use Rattle.turns.specs.Alone.{World, alone, renamed}
-use Rattle.turns.specs.Playing.{stepped, afterOne, answerTo}
+use Rattle.promises.proofs.Replies.{after-silence, one-speaks}
+use Rattle.turns.specs.Alone.{World, alone, renamed, onlyBus}
+use Rattle.turns.specs.Playing.{Made, stepped, afterOne, answerTo, ledTo}
 use Rattle.turns.proofs.Asked.{only, Asked}
-use Rattle.turns.proofs.Alone.{onlyBus, alone-plays, shares-fit, alone-enters}
-use Rattle.turns.proofs.Stepping.{Entering, ledTo, step-clashes, step-plays, each-moves}
+use Rattle.turns.proofs.Alone.{alone-plays, shares-fit, alone-enters}
+use Rattle.turns.proofs.Stepping.{Entering, step-clashes, step-plays, each-moves}
 
 event-only : (order : Order) → eventOf (only order) ≡ eventOf order
 event-only (ToAll event) = refl
@@ -43,23 +41,6 @@ event-only (ToOne named event) = refl
 reaches-only : (order : Order) → reaches (only order) 0 ≡ true
 reaches-only (ToAll event) = refl
 reaches-only (ToOne named event) = refl
-
--- a test of some index, where it holds of one at most
-any-one : (test : ℕ → Bool) (n k : ℕ) → k < n → ((j : ℕ) → j < n → (j ≡ k → ⊥) → test j ≡ false) → anyBelow test n ≡ test k
-any-one test n k below others = go (test k) refl
-  where
-    at : (j : ℕ) → j < n → (same : Bool) → eqb j k ≡ same → test k ≡ false → test j ≡ false
-    at j before true is none = rw (eqb-true j k is) none
-    at j before false is none = others j before (eqb-false j k is)
-
-    go : (here : Bool) → test k ≡ here → anyBelow test n ≡ here
-    go true is = any-at test n k below is
-    go false is = none-any test n (λ j before. at j before (eqb j k) refl is)
-
-after-silence : (said : Said) → heard Nothing said ≡ said
-after-silence Nothing = refl
-after-silence Ack = refl
-after-silence (Byte byte) = refl
 
 module _ (world : World) (e : Entering world) (k : ℕ) (below : k < world .0 .count) (word : ℕ) (order : Order) (asked : Asked (world .0 .count) word order) (reached : reaches order k ≡ true) (unclashing : (j : ℕ) → j < world .0 .count → (j ≡ k → ⊥) → clashesWith (eventOf order) (controlAt (world .0 .chips) j .phase) ≡ false) where
   abbrev count : ℕ
@@ -91,7 +72,7 @@ module _ (world : World) (e : Entering world) (k : ℕ) (below : k < world .0 .c
   clash-alone = rw (event-only order) (or-false _ ∙ sym clash-is-its-own)
 
   -- so what is the same of both refused, and of both played, is the same of both
-  both-step : {A : Type 0} (f g : Stepped × List ℕ × List ℕ → A)
+  both-step : {A : Type 0} (f g : Made → A)
       → f (refused Clash (world .0) (world .1) (world .2)) ≡ g (refused Clash (alone k world .0) (alone k world .1) (alone k world .2))
       → (clash (eventOf order) count chips ≡ false
       → f (played order (world .0) (world .1) (world .2)) ≡ g (played (only order) (alone k world .0) (alone k world .1) (alone k world .2)))

@@ -1,9 +1,9 @@
 -- One turn on an idle bus: the bus is idle again, the other chips and their shares are as they were, and chip k, its shares and the answers
 -- are those of k alone on the line. All of demand 3 is made of this.
-use Prim.Native.Nat.{ℕ, zero, suc, _+_, _<_, _≤_}
+use Prim.Native.Nat.{ℕ, zero, suc, _<_, _≤_}
 use native.Mathlib.Decide.{decLt}
 use native.Mathlib.Omega.{arith}
-use mathlib.Core.Bool.{Bool, true, false, and-comm}
+use mathlib.Core.Bool.{Bool, true, false}
 use mathlib.Core.List.{List, map}
 use mathlib.Core.Path.{_≡_, _∙_, refl, ap, subst}
 use lib.Dec.{eqb, ltb}
@@ -11,12 +11,12 @@ use lib.ListN.{getD}
 use borrow.Author.Tests.{eqb-true, eqb-false, ltb-true}
 use Rattle.base.proofs.Fold.{and-left, and-right, all-at, all-each, any-pair-none}
 use Rattle.parts.specs.Part.{geometryOf}
-use Rattle.parts.specs.Address.{codesOf, firstCode, shareAddress}
+use Rattle.parts.specs.Address.{shareAddress}
 use Rattle.chip.specs.declared.Chip.{Chip}
 use Rattle.board.specs.declared.Place.{Place}
 use Rattle.board.specs.Place.{placeAt, placed}
 use Rattle.board.specs.Board.{sharedAddress, boardChecks, boardVerdict}
-use Rattle.board.specs.Shares.{figuresAt}
+use Rattle.board.proofs.Laws.{shared-sym}
 use Rattle.lineup.specs.Chips.{chipAt, placesOf}
 use Rattle.lineup.proofs.Laws.{place-at}
 use Rattle.bus.specs.Step.{step}
@@ -33,14 +33,6 @@ use Rattle.turns.proofs.Others.{Others}
 use Rattle.turns.proofs.During.{During, excepted, Went}
 use Rattle.turns.proofs.Grammar.{turn-by-cases}
 use Rattle.turns.proofs.Turn.{Leads, named-leads, each-leads}
-
--- two chips match one address byte, whichever is named first
-shared-sym : (places : List Place) (i j : ℕ) → sharedAddress places i j ≡ sharedAddress places j i
-shared-sym places i j = and-comm (starts-before i j) (starts-before j i)
-  where
-    starts-before : ℕ → ℕ → Bool
-    starts-before i j =
-        ltb (firstCode (figuresAt places i) (placeAt places i .strap)) (firstCode (figuresAt places j) (placeAt places j .strap) + codesOf (figuresAt places j))
 
 module _ (began : World) (idle : Idle began) where
   abbrev count : ℕ

@@ -15,18 +15,16 @@ use Rattle.order.specs.declared.Order.{Order}
 use Rattle.order.specs.Order.{eventOf}
 use Rattle.lineup.specs.Chips.{chipAt, placesOf}
 use Rattle.line.specs.Line.{clash}
-use Rattle.bus.specs.declared.Stepped.{Stepped}
 use Rattle.bus.specs.Step.{entryChecks, eventChecks, refused, played, stepBy, event, step}
 use Rattle.bus.proofs.Entry.{Entered, entered}
 use Rattle.promises.specs.Own.{own}
 use Rattle.promises.proofs.Chips.{each-chip-takes-its-own, the-rest-stays}
 use Rattle.promises.proofs.Kept.{places-kept, entry-kept}
 use Rattle.promises.proofs.Runs.{step-is-event}
-use Rattle.turns.specs.Alone.{World, alone}
-use Rattle.turns.specs.Playing.{stepped, afterOne}
+use Rattle.turns.specs.Alone.{World, alone, onlyBus}
+use Rattle.turns.specs.Playing.{Made, stepped, ledTo, afterOne}
 use Rattle.turns.specs.Undisturbed.{Idle}
 use Rattle.turns.proofs.Asked.{Legal}
-use Rattle.turns.proofs.Alone.{onlyBus}
 
 -- four places, and the checks at entry pass
 pub record Entering (world : World) : Type 0 where
@@ -35,10 +33,6 @@ pub record Entering (world : World) : Type 0 where
 
 pub entering : {world : World} → Idle world → Entering world
 entering idle = record { four = idle .four; enters = idle .enters }
-
--- where a step has led
-abbrev pub ledTo : Stepped × List ℕ × List ℕ → World
-ledTo next = (next .0 .bus, next .1, next .2)
 
 pub entering-kept : (world : World) (word : ℕ) → Entering world → Entering (afterOne step world word)
 entering-kept world word e =
@@ -106,7 +100,7 @@ module _ (world : World) (word : ℕ) (order : Order) (e : Entering world) (lega
   unfolding played
   each-moves is i below =
       let (chip-is, array-is, security-is) = each-chip-takes-its-own order count chips (world .1) (world .2) (e .four) (entry .array-fits) (entry .security-fits) i (omega (arith, entry .all-placed)) in
-      ap (λ (next : Stepped × List ℕ × List ℕ). alone i (ledTo next)) (step-plays is)
+      ap (λ (next : Made). alone i (ledTo next)) (step-plays is)
       ∙ rw (
         places-kept order count chips (world .1) (world .2) (e .four) (entry .array-fits) (entry .security-fits),
         chip-is,

@@ -17,10 +17,10 @@ use Rattle.bus.specs.Step.{step}
 use Rattle.turns.specs.Turn.{Turn, isF8}
 use Rattle.turns.specs.Shuffle.{turnsOf, answerOf, isExcepted, Shuffle}
 use Rattle.turns.specs.Alone.{World, alone, renamed, ownTurns}
-use Rattle.turns.specs.Playing.{Bench, answersTo, ending}
-use Rattle.turns.specs.Faults.{Made, shared, oneCounter, forFirst, ownF8}
+use Rattle.turns.specs.Playing.{Bench, answersTo, ending, ledTo, Made}
+use Rattle.turns.specs.Faults.{shared, oneCounter, forFirst, ownF8}
 use Rattle.turns.specs.Undisturbed.{Idle, Turns, isSomeFree, Undisturbed}
-use Rattle.turns.proofs.Stepping.{Entering, ledTo, entering}
+use Rattle.turns.proofs.Stepping.{Entering, entering}
 use Rattle.turns.proofs.Computing.{eventByEvent, Keeps, computed, computed-answer, none, none-keeps}
 use Rattle.turns.proofs.Examples.{of, pair, free, busy, pairs-are-idle, firstReads}
 use Rattle.turns.proofs.OneCounter.{shared-keeps}

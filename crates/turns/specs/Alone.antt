@@ -5,6 +5,7 @@ use mathlib.Core.Bool.{cond, _&&_}
 use mathlib.Core.List.{List, [], _∷_, map}
 use lib.Dec.{leb}
 use Rattle.base.specs.Word.{wordOf}
+use Rattle.chip.specs.declared.Chip.{Chip}
 use Rattle.order.specs.Order.{kindOf}
 use Rattle.lineup.specs.Chips.{chipAt, placesOf}
 use Rattle.line.specs.Line.{arrayShare, securityShare}
@@ -17,13 +18,14 @@ use Rattle.turns.specs.Shuffle.{turnsOf}
 abbrev pub World : Type 0
 World = Bus × List ℕ × List ℕ
 
+-- a bus of one chip
+abbrev pub onlyBus : Chip → Bus
+onlyBus c = record { count = 1; chips = c ∷ emptyChip ∷ emptyChip ∷ emptyChip ∷ [] }
+
 abbrev pub alone : ℕ → World → World
 alone k world =
-    let chips = world .0 .chips in (
-      record { count = 1; chips = chipAt chips k ∷ emptyChip ∷ emptyChip ∷ emptyChip ∷ [] },
-      arrayShare (placesOf chips) k (world .1),
-      securityShare (placesOf chips) k (world .2),
-    )
+    let chips = world .0 .chips in
+    (onlyBus (chipAt chips k), arrayShare (placesOf chips) k (world .1), securityShare (placesOf chips) k (world .2))
 
 abbrev pub renamed : ℕ → ℕ
 renamed word = cond (leb 5 (kindOf word) && leb (kindOf word) 7) (wordOf (kindOf word) 0) word

@@ -8,16 +8,12 @@ use Rattle.parts.specs.Part.{geometryOf}
 use Rattle.control.specs.Control.{arrayAt}
 use Rattle.chip.specs.declared.Chip.{Chip}
 use Rattle.lineup.specs.Chips.{controlAt}
-use Rattle.bus.specs.declared.Stepped.{Stepped}
 use Rattle.bus.specs.Step.{step}
 use Rattle.turns.specs.Turn.{isF8}
 use Rattle.turns.specs.Alone.{World, alone}
-use Rattle.turns.specs.Playing.{Bench, stepped}
+use Rattle.turns.specs.Playing.{Made, Bench, stepped}
 
 -- a fault changes what was made of a world and an event
-abbrev pub Made : Type 0
-Made = Stepped × List ℕ × List ℕ
-
 abbrev pub Fault : Type 0
 Fault = World → ℕ → Made → Made
 

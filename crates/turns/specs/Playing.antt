@@ -8,15 +8,22 @@ use Rattle.turns.specs.Turn.{Turn}
 use Rattle.turns.specs.Shuffle.{eventsOf}
 use Rattle.turns.specs.Alone.{World}
 
--- what a bench makes of one event, ours or another
-abbrev pub Bench : Type 0
-Bench = Bus → List ℕ → List ℕ → ℕ → Stepped × List ℕ × List ℕ
+-- what a bench makes of one event, ours or another: the next state and an answer, and both stores
+abbrev pub Made : Type 0
+Made = Stepped × List ℕ × List ℕ
 
-abbrev pub stepped : Bench → World → ℕ → Stepped × List ℕ × List ℕ
+abbrev pub Bench : Type 0
+Bench = Bus → List ℕ → List ℕ → ℕ → Made
+
+abbrev pub stepped : Bench → World → ℕ → Made
 stepped bench world word = bench (world .0) (world .1) (world .2) word
 
+-- where that has led to
+abbrev pub ledTo : Made → World
+ledTo made = (made .0 .bus, made .1, made .2)
+
 abbrev pub afterOne : Bench → World → ℕ → World
-afterOne bench world word = let now = stepped bench world word in (now .0 .bus, now .1, now .2)
+afterOne bench world word = ledTo (stepped bench world word)
 
 abbrev pub answerTo : Bench → World → ℕ → ℕ
 answerTo bench world word = answerWord (stepped bench world word .0 .answer)

@@ -6,7 +6,7 @@ use mathlib.Core.Bool.{Bool, true, false, cond, not, false≢true}
 use mathlib.Core.List.{List, [], _∷_}
 use mathlib.Core.Logic.{_⊎_, inl, inr}
 use mathlib.Core.Path.{_≡_, _∙_, refl, sym, ap}
-use borrow.Author.Tests.{eqb-true, not-true, not-false}
+use borrow.Author.Tests.{not-true, not-false}
 use Rattle.base.specs.Fold.{anyBelow}
 use Rattle.base.specs.Word.{wordOf}
 use Rattle.base.proofs.Fold.{and-left, and-right, any-some, any-none, none-any}
@@ -20,7 +20,6 @@ use Rattle.board.specs.Place.{placed}
 use Rattle.order.specs.declared.Order.the-variants.{ToAll}
 use Rattle.lineup.specs.Chips.{chipAt, controlAt}
 use Rattle.line.specs.Line.{clash, lineReply}
-use Rattle.bus.specs.declared.Stepped.{Stepped}
 use Rattle.bus.specs.Step.{played, step}
 use Rattle.bus.proofs.Entry.{Entered, entered}
 use Rattle.promises.specs.Own.{own, gathered}
@@ -28,7 +27,7 @@ use Rattle.promises.proofs.Chips.{answer-is-gathered}
 use Rattle.promises.proofs.Replies.{isAck, acknowledged-exactly-when, else-unanswered}
 use Rattle.turns.specs.Turn.{isStart, isF8}
 use Rattle.turns.specs.Alone.{World, alone}
-use Rattle.turns.specs.Playing.{afterOne, answerTo, after, answersTo}
+use Rattle.turns.specs.Playing.{Made, afterOne, answerTo, after, answersTo}
 use Rattle.turns.specs.Undisturbed.{isSomeFree, Acknowledged}
 use Rattle.turns.proofs.Asked.{start-asks, f8-asks}
 use Rattle.turns.proofs.Resting.{isHeeding, start-heeds, heeding-sends-nothing, f8-said}
@@ -69,20 +68,15 @@ module _ (world : World) (e : Entering world) (heeding : (i : ℕ) → i < world
           absurd (false≢true (ap isAck (rw busy at (sym (says i below) ∙ acked))))
       go (inr none) = none
 
+  calm : clash (Sent 0xF8) count chips ≡ false
+  calm = none-any (λ (i : ℕ). isSending (controlAt chips i .phase)) (placed count) (λ i below. heeding-sends-nothing (controlAt chips i .phase) (heeding i (omega (arith, entry .all-placed))))
+
   f8-answered : (word : ℕ) → isF8 word ≡ true → answerTo step world word ≡ wordOf 0 (cond (isSomeFree (world .0)) 0x01 0x00)
   unfolding played
-  f8-answered word is = go (eqb-true word (wordOf 3 0xF8) is)
-    where
-      calm : clash (Sent 0xF8) count chips ≡ false
-      calm = none-any (λ (i : ℕ). isSending (controlAt chips i .phase)) (placed count) (λ i below. heeding-sends-nothing (controlAt chips i .phase) (heeding i (omega (arith, entry .all-placed))))
-
-      go : word ≡ wordOf 3 0xF8 → answerTo step world word ≡ wordOf 0 (cond (isSomeFree (world .0)) 0x01 0x00)
-      go same =
-          rw same (
-          ap (λ (next : Stepped × List ℕ × List ℕ). answerWord (next .0 .answer)) (step-plays world (wordOf 3 0xF8) (ToAll (Sent 0xF8)) e (f8-asks count (wordOf 3 0xF8) refl .0) calm)
-          ∙ ap (λ (said : Said). wordOf 0 (lineReply (Sent 0xF8) said)) (answer-is-gathered (ToAll (Sent 0xF8)) count chips (world .1) (world .2) (e .four) (entry .array-fits) (entry .security-fits))
-          ∙ ap (λ (byte : ℕ). wordOf 0 byte) (reply-is (anyBelow free (placed count)) refl)
-          )
+  f8-answered word is =
+      ap (λ (made : Made). answerWord (made .0 .answer)) (step-plays world word (ToAll (Sent 0xF8)) e (f8-asks count word is .0) calm)
+      ∙ ap (λ (said : Said). wordOf 0 (lineReply (Sent 0xF8) said)) (answer-is-gathered (ToAll (Sent 0xF8)) count chips (world .1) (world .2) (e .four) (entry .array-fits) (entry .security-fits))
+      ∙ ap (λ (byte : ℕ). wordOf 0 byte) (reply-is (anyBelow free (placed count)) refl)
 
 -- a Start leaves such a bus
 start-leaves : (world : World) (word : ℕ) → Entering world → isStart word ≡ true

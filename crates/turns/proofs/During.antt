@@ -50,11 +50,12 @@ pub record During (k : ℕ) (next : Next) (began now : World) : Type 0 where
   pub others : (j : ℕ) → j < began .0 .count → (j ≡ k → ⊥)
       → alone j now ≡ (onlyBus (lifted next (chipAt (began .0 .chips) j)), alone j began .1, alone j began .2)
 
--- where the rest of a turn leads, from where it is now; `started` says whether a Start has come just before
+-- which answer to the rest of a turn is excepted; `started` says whether a Start has come just before
 abbrev pub excepted : Bool → List ℕ → ℕ → Bool
 excepted started events zero = started && isF8 (getD events 0 0)
 excepted started events (suc i) = isExcepted events (suc i)
 
+-- where the rest of a turn leads, from where it is now
 pub record Went (k : ℕ) (started : Bool) (events : List ℕ) (began now : World) : Type 0 where
   pub ended : During k Anything began (after step now events)
   pub rests : isAtRest (chipAt (after step now events .0 .chips) k) ≡ true

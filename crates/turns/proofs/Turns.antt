@@ -13,15 +13,11 @@ use Rattle.lineup.specs.Chips.{chipAt, placesOf}
 use Rattle.bus.specs.Step.{step}
 use Rattle.turns.specs.Turn.{Turn, isTurn}
 use Rattle.turns.specs.Shuffle.{areTurns, eventsOf, turnsOf, answersOf, isExcepted}
-use Rattle.turns.specs.Alone.{World, alone, renamed, ownTurns}
+use Rattle.turns.specs.Alone.{World, alone, renamed, ownTurn, ownTurns}
 use Rattle.turns.specs.Playing.{after, answersTo}
 use Rattle.turns.specs.Undisturbed.{Idle, Turns}
 use Rattle.turns.proofs.Lists.{after-append, answers-cut}
 use Rattle.turns.proofs.OneTurn.{Leaves, turn-leaves}
-
--- a turn as its chip has it alone
-abbrev alike : List ℕ → Turn
-alike events = record { chip = 0; events = map renamed events }
 
 -- what turns keep from one world to another: an idle bus, its count and the places past it
 pub record Passes (world ends : World) : Type 0 where
@@ -79,7 +75,7 @@ ends-alone (turn ∷ rest) world idle are k below =
   where
     go : (same : Bool) → eqb (turn .chip) k ≡ same
         → after step (alone k (after step world (turn .events))) (eventsOf (ownTurns k rest))
-        ≡ after step (alone k world) (eventsOf (map alike (cond same (turn .events ∷ turnsOf k rest) (turnsOf k rest))))
+        ≡ after step (alone k world) (eventsOf (map ownTurn (cond same (turn .events ∷ turnsOf k rest) (turnsOf k rest))))
     go true is =
         ap (λ (w : World). after step w (eventsOf (ownTurns k rest))) (own-next world idle turn rest are k (eqb-true _ _ is))
         ∙ sym (after-append step (alone k world) (map renamed (turn .events)) (eventsOf (ownTurns k rest)))
@@ -91,7 +87,7 @@ module _ (k : ℕ) where
   inList world turns = answersOf k turns (answersTo step world (eventsOf turns))
 
   abbrev byItself : World → List (List ℕ) → List (List ℕ)
-  byItself world own = answersOf 0 (map alike own) (answersTo step world (eventsOf (map alike own)))
+  byItself world own = answersOf 0 (map ownTurn own) (answersTo step world (eventsOf (map ownTurn own)))
 
   -- event i of the j-th turn gets the same answer in both, unless it is excepted
   abbrev Same : List (List ℕ) → List (List ℕ) → List (List ℕ) → Type 0
@@ -124,7 +120,7 @@ module _ (k : ℕ) where
           → Same (cond same (turn .events ∷ own) own) (cond same (answersTo step world (turn .events) ∷ inList next rest) (inList next rest))
           (byItself (alone k world) (cond same (turn .events ∷ own) own))
       go true is later =
-          subst (Same (turn .events ∷ own) (answersTo step world (turn .events) ∷ inList next rest)) (sym (answers-cut step (alone k world) 0 (alike (turn .events)) (map alike own)))
+          subst (Same (turn .events ∷ own) (answersTo step world (turn .events) ∷ inList next rest)) (sym (answers-cut step (alone k world) 0 (ownTurn (turn .events)) (map ownTurn own)))
           (same-more (turn .events) own (answersTo step world (turn .events)) (answersTo step (alone k world) (map renamed (turn .events))) (inList next rest) (byItself (after step (alone k world) (map renamed (turn .events))) own)
           (own-answers world idle turn rest are k (eqb-true _ _ is))
           (subst (λ (w : World). Same own (inList next rest) (byItself w own)) (own-next world idle turn rest are k (eqb-true _ _ is)) later))

@@ -14,7 +14,7 @@ use Rattle.lineup.specs.Chips.{placesOf}
 use Rattle.bus.specs.Step.{step}
 use Rattle.turns.specs.Turn.{Turn, isTurn}
 use Rattle.turns.specs.Shuffle.{areTurns, eventsOf, Shuffle, turnOf, answersOf, answerOf, isExcepted}
-use Rattle.turns.specs.Alone.{World, alone, ownTurns}
+use Rattle.turns.specs.Alone.{World, alone, ownTurn, ownTurns}
 use Rattle.turns.specs.Playing.{after, answersTo, ending}
 use Rattle.turns.specs.Faults.{ours}
 use Rattle.turns.specs.Undisturbed.{Idle, Turns, AsAlone, Undisturbed}
@@ -43,7 +43,7 @@ module _ (world : World) (turns others : List Turn) (idle : Idle world) (are : T
   are-too = shuffle-turns (world .0 .count) (placesOf (world .0 .chips)) turns others are shuffle
 
   own-same : (k : ℕ) → ownTurns k turns ≡ ownTurns k others
-  own-same k = ap (map _) (shuffle k)
+  own-same k = ap (map ownTurn) (shuffle k)
 
   ends-same : after step world (eventsOf turns) ≡ after step world (eventsOf others)
   ends-same =

@@ -30,6 +30,9 @@ alone k world =
 abbrev pub renamed : ℕ → ℕ
 renamed word = cond (leb 5 (kindOf word) && leb (kindOf word) 7) (wordOf (kindOf word) 0) word
 
--- the turns of chip k as it has them alone
+-- a turn as its chip has it alone, and all the turns of chip k
+abbrev pub ownTurn : List ℕ → Turn
+ownTurn events = record { chip = 0; events = map renamed events }
+
 abbrev pub ownTurns : ℕ → List Turn → List Turn
-ownTurns k turns = map (λ (events : List ℕ). record { chip = 0; events = map renamed events }) (turnsOf k turns)
+ownTurns k turns = map ownTurn (turnsOf k turns)

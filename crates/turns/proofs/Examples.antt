@@ -1,13 +1,16 @@
 -- What demand 3 supposes can be met: a board of mixed parts, a list of turns on it with much of what a turn may hold, and a shuffle of
 -- the list. On a smaller board the answers are computed, a refusal 8 among them.
-use Prim.Native.Nat.{ℕ, zero, suc, _+_, _<_}
+use Prim.Native.Nat.{ℕ, zero, suc, _+_, _<_, _≤_}
 use native.Mathlib.Omega.{arith}
-use mathlib.Core.Bool.{true}
+use mathlib.Core.Bool.{true, false}
 use mathlib.Core.List.{List, [], _∷_}
-use mathlib.Core.Path.{_≡_, refl, ap}
-use lib.ListN.{length, replicate, length-replicate}
+use mathlib.Core.Path.{_≡_, _∙_, refl, sym, ap, subst}
+use lib.ListN.{length, replicate, getD-replicate, length-replicate}
+use lib.Seq.{ext-getD}
 use borrow.Author.Tests.{ne-eqb}
 use Rattle.base.specs.Fold.{upTo}
+use Rattle.base.specs.Store.{span}
+use Rattle.base.proofs.Store.{span-length, span-at}
 use Rattle.parts.specs.Part.{geometryOf}
 use Rattle.load.specs.Load as load
 use Rattle.control.specs.declared.Control.{Control}
@@ -25,12 +28,15 @@ use Rattle.bus.specs.Setup.{emptyChip}
 use Rattle.bus.specs.Step.{entryChecks, event, step}
 use Rattle.turns.specs.Idle.{isIdle}
 use Rattle.turns.specs.Turn.{Turn}
-use Rattle.turns.specs.Shuffle.{eventsOf, answersOf, Shuffle}
-use Rattle.turns.specs.Alone.{World, alone}
-use Rattle.turns.specs.Playing.{answersTo}
-use Rattle.turns.specs.Undisturbed.{Idle, Turns}
-use Rattle.turns.proofs.Stepping.{entering}
-use Rattle.turns.proofs.Computing.{eventByEvent, computed, none, none-keeps}
+use Rattle.turns.specs.Shuffle.{eventsOf, answersOf, answerOf, turnOf, isExcepted, Shuffle}
+use Rattle.turns.specs.Alone.{World, onlyBus, alone, ownTurns}
+use Rattle.turns.specs.Playing.{answersTo, ending}
+use Rattle.turns.specs.Faults.{ours}
+use Rattle.turns.specs.Undisturbed.{Idle, Turns, Alike}
+use Rattle.turns.proofs.Stepping.{Entering, entering}
+use Rattle.turns.proofs.Alone.{alone-enters}
+use Rattle.turns.proofs.Undisturbed.{undisturbed}
+use Rattle.turns.proofs.Computing.{eventByEvent, computed, computed-answer, none, none-keeps}
 
 -- up to three chips, none of which holds a load
 abbrev withoutLoad : Control → Chip
@@ -124,6 +130,54 @@ others-are-a-shuffle (suc zero) = refl
 others-are-a-shuffle (suc (suc zero)) = refl
 others-are-a-shuffle (suc (suc (suc k))) =
     rw (ne-eqb 0 (suc (suc (suc k))) (omega arith), ne-eqb 1 (suc (suc (suc k))) (omega arith), ne-eqb 2 (suc (suc (suc k))) (omega arith))
+
+-- so the demand speaks of them
+pub board-is-undisturbed : Alike turns others (ending ours board turns) (ending ours board others)
+board-is-undisturbed = undisturbed .shuffled board turns others board-is-idle turns-are-turns others-are-a-shuffle
+
+-- part of a store that holds one byte throughout
+cut-replicate : (at n m x : ℕ) → at + n ≤ m → span at n (replicate m x) ≡ replicate n x
+cut-replicate at n m x fits =
+    let long : length (replicate m x) ≡ m = length-replicate m x in
+    let short : length (span at n (replicate m x)) ≡ n = span-length at n (replicate m x) (omega (arith, long, fits)) in
+    ext-getD 0 _ _ (short ∙ sym (length-replicate n x)) λ i below.
+    let inside : i < n = omega (arith, below, short) in
+    span-at at n (replicate m x) i 0 inside ∙ getD-replicate m (at + i) x 0 (omega arith) ∙ sym (getD-replicate n i x 0 inside)
+
+-- what the busy chip answers there is what it answers alone, where it has 4,096 bytes and not 139,264
+abbrev busyOne : List ℕ → List ℕ → World
+busyOne array security = (onlyBus (withoutLoad (busy (fresh 2 0))), array, security)
+
+alone-is : alone 1 board ≡ busyOne (replicate 4096 0xFF) (replicate 64 0xFF)
+unfolding board placesOf upTo geometryOf
+alone-is =
+    ap (λ (array : List ℕ). busyOne array (span 512 64 (replicate securities 0xFF))) (cut-replicate 131072 4096 arrays 0xFF (omega arith))
+    ∙ ap (busyOne (replicate 4096 0xFF)) (cut-replicate 512 64 securities 0xFF (omega arith))
+
+on-board : 1 < board .0 .count
+unfolding board
+on-board = omega arith
+
+-- the answer to event i of its j-th turn
+abbrev answerOfBusy : ℕ → ℕ → ℕ
+answerOfBusy j i = answerOf 1 turns (ending ours board turns .1) j i
+
+-- polled it is silent; its cycle over, it acknowledges and sends FFh
+pub busy-chip-answers : (answerOfBusy 0 1 ≡ 0x0000) × (answerOfBusy 2 1 ≡ 0x0001) × (answerOfBusy 2 2 ≡ 0x00FF)
+unfolding turns eventByEvent
+busy-chip-answers = (answer 0 1 refl, answer 2 1 refl, answer 2 2 refl)
+  where
+    own : World
+    own = busyOne (replicate 4096 0xFF) (replicate 64 0xFF)
+
+    enters : Entering own
+    enters = subst Entering alone-is (record { four = refl; enters = alone-enters board (board-is-idle .enters) 1 on-board })
+
+    answer : (j i : ℕ) → isExcepted (turnOf 1 turns j) i ≡ false → answerOfBusy j i ≡ answerOf 0 (ownTurns 1 turns) (answersTo event own (eventsOf (ownTurns 1 turns))) j i
+    answer j i usual =
+        undisturbed .by-itself board turns board-is-idle turns-are-turns 1 on-board .answers j i usual
+        ∙ ap (λ (world : World). answerOf 0 (ownTurns 1 turns) (answersTo step world (eventsOf (ownTurns 1 turns))) j i) alone-is
+        ∙ computed-answer none none-keeps own enters 0 (ownTurns 1 turns) j i
 
 -- two 24CS32 at straps 0 and 1, with 5Ah at 000h of the first and FFh elsewhere
 abbrev pub pair : (Control → Control) → (Control → Control) → World

@@ -6,6 +6,7 @@ use mathlib.Core.Bool.{Bool, true, false, cond, not, false≢true}
 use mathlib.Core.List.{List, [], _∷_}
 use mathlib.Core.Logic.{_⊎_, inl, inr}
 use mathlib.Core.Path.{_≡_, _∙_, refl, sym, ap}
+use lib.ListN.{getD, take}
 use borrow.Author.Tests.{not-true, not-false}
 use Rattle.base.specs.Fold.{anyBelow}
 use Rattle.base.specs.Word.{wordOf}
@@ -26,12 +27,19 @@ use Rattle.promises.specs.Own.{own, gathered}
 use Rattle.promises.proofs.Chips.{answer-is-gathered}
 use Rattle.promises.proofs.Replies.{isAck, acknowledged-exactly-when, else-unanswered}
 use Rattle.turns.specs.Turn.{isStart, isF8}
+use Rattle.turns.specs.Shuffle.{isExcepted}
 use Rattle.turns.specs.Alone.{World, alone}
 use Rattle.turns.specs.Playing.{Made, afterOne, answerTo, after, answersTo}
-use Rattle.turns.specs.Undisturbed.{isSomeFree, Acknowledged}
+use Rattle.turns.specs.Undisturbed.{acknowledge}
 use Rattle.turns.proofs.Asked.{start-asks, f8-asks}
 use Rattle.turns.proofs.Resting.{isHeeding, start-heeds, heeding-sends-nothing, f8-said}
-use Rattle.turns.proofs.Stepping.{Entering, entering-kept, step-plays, count-kept, each-moves}
+use Rattle.turns.proofs.Entering.{Entering, entering-kept}
+use Rattle.turns.proofs.Stepping.{step-plays, count-kept, each-moves}
+
+-- the answer to F8h straight after a Start, wherever it stands in a list of events
+abbrev pub Acknowledged : World → List ℕ → Type 0
+Acknowledged world events =
+    (i : ℕ) → isExcepted events i ≡ true → getD (answersTo step world events) i 0 ≡ acknowledge (after step world (take i events) .0)
 
 -- a bus on which every chip awaits an address byte or is busy
 module _ (world : World) (e : Entering world) (heeding : (i : ℕ) → i < world .0 .count → isHeeding (controlAt (world .0 .chips) i .phase) ≡ true) where
@@ -71,11 +79,11 @@ module _ (world : World) (e : Entering world) (heeding : (i : ℕ) → i < world
   calm : clash (Sent 0xF8) count chips ≡ false
   calm = none-any (λ (i : ℕ). isSending (controlAt chips i .phase)) (placed count) (λ i below. heeding-sends-nothing (controlAt chips i .phase) (heeding i (omega (arith, entry .all-placed))))
 
-  f8-answered : (word : ℕ) → isF8 word ≡ true → answerTo step world word ≡ wordOf 0 (cond (isSomeFree (world .0)) 0x01 0x00)
+  f8-answered : (word : ℕ) → isF8 word ≡ true → answerTo step world word ≡ acknowledge (world .0)
   unfolding played
   f8-answered word is =
       ap (λ (made : Made). answerWord (made .0 .answer)) (step-plays world word (ToAll (Sent 0xF8)) e (f8-asks count word is .0) calm)
-      ∙ ap (λ (said : Said). wordOf 0 (lineReply (Sent 0xF8) said)) (answer-is-gathered (ToAll (Sent 0xF8)) count chips (world .1) (world .2) (e .four) (entry .array-fits) (entry .security-fits))
+      ∙ ap (λ (said : Said). wordOf 0 (lineReply (Sent 0xF8) said)) (answer-is-gathered (ToAll (Sent 0xF8)) count chips (world .1) (world .2) (e .whole .four) (entry .array-fits) (entry .security-fits))
       ∙ ap (λ (byte : ℕ). wordOf 0 byte) (reply-is (anyBelow free (placed count)) refl)
 
 -- a Start leaves such a bus
@@ -87,17 +95,16 @@ start-leaves world word e is i below =
     ap (λ (w : World). isHeeding (controlAt (w .0 .chips) 0 .phase)) (each-moves world word (ToAll Start) e legal calm i (omega (arith, below, count-kept world word (ToAll Start) e legal)))
     ∙ start-heeds (chipAt (world .0 .chips) i) (alone i world .1) (alone i world .2)
 
--- wherever it stands in a list of events
-pub f8-acknowledged : (events : List ℕ) (world : World) → Entering world → Acknowledged step world events
+pub f8-acknowledged : (events : List ℕ) (world : World) → Entering world → Acknowledged world events
 unfolding after answersTo
 f8-acknowledged [] world e = none
   where
-    none : Acknowledged step world []
+    none : Acknowledged world []
     none zero is = absurd (false≢true is)
     none (suc i) is = absurd (false≢true is)
 f8-acknowledged (word ∷ more) world e = go (f8-acknowledged more (afterOne step world word) (entering-kept world word e)) more refl
   where
-    go : Acknowledged step (afterOne step world word) more → (rest : List ℕ) → more ≡ rest → Acknowledged step world (word ∷ more)
+    go : Acknowledged (afterOne step world word) more → (rest : List ℕ) → more ≡ rest → Acknowledged world (word ∷ more)
     go later rest same zero is = absurd (false≢true is)
     go later [] same (suc zero) is = absurd (false≢true (and-right (isStart word) _ (rw same at is)))
     go later (f8 ∷ rest) same (suc zero) is =

@@ -42,7 +42,7 @@ module _ (count : ℕ) where
           sent = λ word more is. also word more _ (sent-asks count word is);
           read = λ word more is. also word more _ (read-asks count word is);
           named = naming;
-          first = λ word more is first. also word more _ (sent-asks count word is);
+          first = λ word more other is first. also word more _ (sent-asks count word is);
           f8 = λ word more is. also word more _ (f8-asks count word is);
           choice = λ word more is named. also word more _ (sent-asks count word is);
         }
@@ -53,6 +53,6 @@ pub turn-values-are-allowed : (count : ℕ) (places : List Place) (turn : Turn) 
 turn-values-are-allowed count places turn is =
     let place = placeAt places (turn .chip) in
     let below : turn .chip < count = ltb-true _ _ (and-left _ _ is) in
-    turn-by-cases place (turn .chip) _ (allowed count place (turn .chip) below) (Allowed count) (λ events each. each)
+    turn-by-cases place (turn .chip) _ (allowed count place (turn .chip) below) (Allowed count) (allowed count place (turn .chip) below .start)
     (λ word naming-it. naming count place (turn .chip) below word [] naming-it (none count))
     (turn .events) (and-right (ltb (turn .chip) count) _ is)

@@ -18,15 +18,15 @@ use Rattle.line.specs.Line.{play}
 use Rattle.bus.specs.Step.{played, event, step}
 use Rattle.promises.proofs.Runs.{step-is-event}
 use Rattle.turns.specs.Turn.{Turn, isTurnAt, goesOn}
-use Rattle.turns.specs.Shuffle.{areTurns, eventsOf, turnsOf, answersOf, answerOf}
+use Rattle.turns.specs.Shuffle.{areTurns, eventsOf, turnsOf, beganAt, answersOf, answerOf}
 use Rattle.turns.specs.Alone.{World}
 use Rattle.turns.specs.Playing.{Bench, after, answersTo, ledTo, Made}
-use Rattle.turns.specs.Faults.{Fault, with}
-use Rattle.turns.proofs.Stepping.{Entering, entering-kept}
+use Rattle.turns.specs.Benches.{Fault, with}
+use Rattle.turns.proofs.Entering.{Entering, entering-kept}
 
 -- who unfolds it unfolds all that an event and a turn are made of
 unfoldable pub eventByEvent : Bench
-unfolding event played play chip.step take loaded takeAddress takeChoice callOf geometryOf read stop holds storePage upTo orderOf placesOf areTurns isTurnAt goesOn eventsOf turnsOf answersOf after answersTo
+unfolding event played play chip.step take loaded takeAddress takeChoice callOf geometryOf read stop holds storePage upTo orderOf placesOf areTurns isTurnAt goesOn eventsOf turnsOf beganAt answersOf after answersTo
 eventByEvent = event
 
 -- what entered still enters with it

@@ -1,13 +1,11 @@
 -- A turn of chip k in progress. The other chips are as they were when it began, but that they hear a Start and F8h and await the byte that
 -- follows at once; an event of the turn moves k as it moves it alone on the line.
 use Prim.Native.Nat.{ℕ, zero, suc, _<_, _≤_}
-use native.Mathlib.Decide.{decLt}
 use native.Mathlib.Omega.{arith}
 use mathlib.Core.Bool.{Bool, true, false, cond, _&&_, true≢false}
 use mathlib.Core.List.{List, [], _∷_, map}
 use mathlib.Core.Path.{_≡_, _∙_, refl, sym, ap, subst}
-use lib.ListN.{length, getD}
-use Rattle.base.proofs.test.Laws.{either}
+use lib.ListN.{getD}
 use Rattle.control.specs.declared.Said.{Said}
 use Rattle.control.specs.declared.Said.the-variants.{Nothing}
 use Rattle.control.specs.declared.phase.Phase.{Phase}
@@ -29,10 +27,11 @@ use Rattle.turns.specs.Shuffle.{isExcepted}
 use Rattle.turns.specs.Alone.{World, alone, renamed, onlyBus}
 use Rattle.turns.specs.Playing.{afterOne, answerTo, after, answersTo, ledTo}
 use Rattle.turns.proofs.Asked.{Asked}
-use Rattle.turns.proofs.Stepping.{Entering, entering-kept, step-clashes, count-kept, board-kept, rest-kept, each-moves}
+use Rattle.turns.proofs.Entering.{Entering, entering-kept}
+use Rattle.turns.proofs.Stepping.{step-clashes, count-kept, board-kept, rest-kept, each-moves}
 use Rattle.turns.proofs.Event.{clash-is-its-own, alone-moves, answers-alike}
 use Rattle.turns.proofs.Bystander.{lifted}
-use Rattle.turns.proofs.Resting.{marks-kept, isHeeding}
+use Rattle.turns.proofs.Resting.{isHeeding}
 
 -- where a byte must follow at once, chip k does not send
 abbrev pub Heeds : Next → Phase → Type 0
@@ -42,7 +41,6 @@ Heeds ChoiceByte phase = isSending phase ≡ false
 
 pub record During (k : ℕ) (next : Next) (began now : World) : Type 0 where
   pub entering : Entering now
-  pub marks : (i : ℕ) → i < 4 → length (chipAt (now .0 .chips) i .load .marks) ≡ 256
   pub count : now .0 .count ≡ began .0 .count
   pub board : placesOf (now .0 .chips) ≡ placesOf (began .0 .chips)
   pub rest : (i : ℕ) → began .0 .count ≤ i → chipAt (now .0 .chips) i ≡ chipAt (began .0 .chips) i
@@ -133,17 +131,6 @@ module _ (k : ℕ) (next next′ : Next) (began now : World) (below : k < began 
   turn-taken is =
       ap (λ (w : World). chipAt (w .0 .chips) 0) (each-moves now word order (d .entering) (asked .0) is k below-now) ∙ rw reached
 
-  marks-after : clash (eventOf order) (now .0 .count) chips ≡ false → (i : ℕ) → i < 4 → length (chipAt (afterOne step now word .0 .chips) i .load .marks) ≡ 256
-  marks-after is i four = go (decLt i (now .0 .count))
-    where
-      go : Dec (i < now .0 .count) → length (chipAt (afterOne step now word .0 .chips) i .load .marks) ≡ 256
-      go (yes p) =
-          ap (λ (w : World). length (chipAt (w .0 .chips) 0 .load .marks)) (each-moves now word order (d .entering) (asked .0) is i p)
-          ∙ either (λ (x : Stepped × List ℕ × List ℕ). length (x .0 .chip .load .marks) ≡ 256) (reaches order i) _ _
-          (marks-kept (chipAt chips i) (alone i now .1) (alone i now .2) (eventOf order) (d .marks i four))
-          (d .marks i four)
-      go (no p) = ap (λ (c : Chip). length (c .load .marks)) (rest-kept now word order (d .entering) (asked .0) i (omega arith)) ∙ d .marks i four
-
   -- it may be refused only where the next event may be anything
   turn-goes-on : (clashesWith (eventOf order) phase ≡ true → next ≡ next′) → Heeds next′ (taken .0 .chip .control .phase) → During k next′ began (afterOne step now word)
   turn-goes-on refusable heeding = go (clash (eventOf order) (now .0 .count) chips) refl
@@ -155,7 +142,6 @@ module _ (k : ℕ) (next next′ : Next) (began now : World) (below : k < began 
       go false is =
           record {
             entering = entering-kept now word (d .entering);
-            marks = marks-after is;
             count = count-kept now word order (d .entering) (asked .0) ∙ d .count;
             board = board-kept now word order (d .entering) (asked .0) ∙ d .board;
             rest = λ i past. rest-kept now word order (d .entering) (asked .0) i (omega (arith, past, d .count)) ∙ d .rest i past;

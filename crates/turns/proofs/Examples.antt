@@ -31,10 +31,10 @@ use Rattle.turns.specs.Turn.{Turn}
 use Rattle.turns.specs.Shuffle.{eventsOf, answersOf, answerOf, turnOf, isExcepted, Shuffle}
 use Rattle.turns.specs.Alone.{World, onlyBus, alone, ownTurns}
 use Rattle.turns.specs.Playing.{answersTo, ending}
-use Rattle.turns.specs.Faults.{ours}
-use Rattle.turns.specs.Undisturbed.{Idle, Turns, Alike}
-use Rattle.turns.proofs.Stepping.{Entering, entering}
-use Rattle.turns.proofs.Alone.{alone-enters}
+use Rattle.turns.specs.Benches.{ours}
+use Rattle.turns.specs.Undisturbed.{Ready, Turns, Alike}
+use Rattle.turns.proofs.Entering.{Entering, entering}
+use Rattle.turns.proofs.Alone.{alone-enters, alone-whole}
 use Rattle.turns.proofs.Undisturbed.{undisturbed}
 use Rattle.turns.proofs.Computing.{eventByEvent, computed, computed-answer, none, none-keeps}
 
@@ -46,10 +46,10 @@ abbrev line : ℕ → Control → Control → Control → Bus
 line count one two three =
     record { count = count; chips = withoutLoad one ∷ withoutLoad two ∷ withoutLoad three ∷ emptyChip ∷ [] }
 
-line-is-idle : (count : ℕ) (one two three : Control) (array security : List ℕ) → let bus = line count one two three in
-    firstOf (entryChecks bus array security) ≡ Passed → isIdle bus ≡ true → Idle (bus, array, security)
-line-is-idle count one two three array security enters idle =
-    record { four = refl; marks = marks; enters = enters; idle = idle }
+line-is-ready : (count : ℕ) (one two three : Control) (array security : List ℕ) → let bus = line count one two three in
+    firstOf (entryChecks bus array security) ≡ Passed → isIdle bus ≡ true → Ready (bus, array, security)
+line-is-ready count one two three array security enters idle =
+    record { whole = record { four = refl; marks = marks }; enters = enters; idle = idle }
   where
     marks : (i : ℕ) → i < 4 → length (chipAt (line count one two three .chips) i .load .marks) ≡ 256
     marks zero below = refl
@@ -66,7 +66,7 @@ abbrev pub busy : Control → Control
 busy c = inPhase Busy c
 
 -- a 24CSM01 at strap 1, a 24CS32 at strap 0 that is busy, and a 24CS32 at strap 5 that is protected, with EWPM 0 and WP high
-abbrev mixed : Bus
+abbrev pub mixed : Bus
 mixed = line 3 (fresh 1 1) (busy (fresh 2 0)) (wpAt true (fresh 2 5))
 
 -- the bytes of each store
@@ -79,13 +79,13 @@ securities = 512 + 64 + 64
 pub board : World
 board = (mixed, replicate arrays 0xFF, replicate securities 0xFF)
 
-mixed-is-idle : (array security : List ℕ) → length array ≡ arrays → length security ≡ securities → Idle (mixed, array, security)
+mixed-is-ready : (array security : List ℕ) → length array ≡ arrays → length security ≡ securities → Ready (mixed, array, security)
 unfolding wellFormed boardVerdict placesOf upTo one-chip.wellFormed geometryOf isIdle
-mixed-is-idle array security long short = line-is-idle _ _ _ _ array security (rw (long, short, none-loaded)) (rw none-loaded)
+mixed-is-ready array security long short = line-is-ready _ _ _ _ array security (rw (long, short, none-loaded)) (rw none-loaded)
 
-pub board-is-idle : Idle board
+pub board-is-ready : Ready board
 unfolding board
-board-is-idle = mixed-is-idle (replicate arrays 0xFF) (replicate securities 0xFF) (length-replicate {A = ℕ} arrays 0xFF) (length-replicate {A = ℕ} securities 0xFF)
+board-is-ready = mixed-is-ready (replicate arrays 0xFF) (replicate securities 0xFF) (length-replicate {A = ℕ} arrays 0xFF) (length-replicate {A = ℕ} securities 0xFF)
 
 abbrev pub of : ℕ → List ℕ → Turn
 of chip events = record { chip = chip; events = events }
@@ -133,7 +133,7 @@ others-are-a-shuffle (suc (suc (suc k))) =
 
 -- so the demand speaks of them
 pub board-is-undisturbed : Alike turns others (ending ours board turns) (ending ours board others)
-board-is-undisturbed = undisturbed .shuffled board turns others board-is-idle turns-are-turns others-are-a-shuffle
+board-is-undisturbed = undisturbed .shuffled board turns others board-is-ready turns-are-turns others-are-a-shuffle
 
 -- part of a store that holds one byte throughout
 cut-replicate : (at n m x : ℕ) → at + n ≤ m → span at n (replicate m x) ≡ replicate n x
@@ -171,11 +171,11 @@ busy-chip-answers = (answer 0 1 refl, answer 2 1 refl, answer 2 2 refl)
     own = busyOne (replicate 4096 0xFF) (replicate 64 0xFF)
 
     enters : Entering own
-    enters = subst Entering alone-is (record { four = refl; enters = alone-enters board (board-is-idle .enters) 1 on-board })
+    enters = subst Entering alone-is (record { whole = alone-whole board 1 (omega arith) (board-is-ready .whole); enters = alone-enters board (board-is-ready .enters) 1 on-board })
 
     answer : (j i : ℕ) → isExcepted (turnOf 1 turns j) i ≡ false → answerOfBusy j i ≡ answerOf 0 (ownTurns 1 turns) (answersTo event own (eventsOf (ownTurns 1 turns))) j i
     answer j i usual =
-        undisturbed .by-itself board turns board-is-idle turns-are-turns 1 on-board .answers j i usual
+        undisturbed .by-itself board turns board-is-ready turns-are-turns 1 on-board .answers j i usual
         ∙ ap (λ (world : World). answerOf 0 (ownTurns 1 turns) (answersTo step world (eventsOf (ownTurns 1 turns))) j i) alone-is
         ∙ computed-answer none none-keeps own enters 0 (ownTurns 1 turns) j i
 
@@ -186,13 +186,13 @@ pair one two = (line 2 (one (fresh 2 0)) (two (fresh 2 1)) (fresh 0 0), 0x5A ∷
 abbrev pub free : Control → Control
 free c = c
 
-pub pairs-are-idle : Idle (pair free free) × Idle (pair busy free) × Idle (pair busy busy) × Idle (alone 0 (pair busy free))
+pub pairs-are-ready : Ready (pair free free) × Ready (pair busy free) × Ready (pair busy busy) × Ready (alone 0 (pair busy free))
 unfolding wellFormed boardVerdict placesOf upTo one-chip.wellFormed geometryOf isIdle
-pairs-are-idle = (
-  line-is-idle _ _ _ _ _ _ (rw none-loaded) (rw none-loaded),
-  line-is-idle _ _ _ _ _ _ (rw none-loaded) (rw none-loaded),
-  line-is-idle _ _ _ _ _ _ (rw none-loaded) (rw none-loaded),
-  line-is-idle _ _ _ _ _ _ (rw none-loaded) (rw none-loaded),
+pairs-are-ready = (
+  line-is-ready _ _ _ _ _ _ (rw none-loaded) (rw none-loaded),
+  line-is-ready _ _ _ _ _ _ (rw none-loaded) (rw none-loaded),
+  line-is-ready _ _ _ _ _ _ (rw none-loaded) (rw none-loaded),
+  line-is-ready _ _ _ _ _ _ (rw none-loaded) (rw none-loaded),
 )
 
 -- the first reads the byte at its counter
@@ -217,4 +217,4 @@ unfolding eventByEvent
 answers-in-both-orders = (by-events (firstReads ∷ secondClashes ∷ []), by-events (secondClashes ∷ firstReads ∷ []))
   where
     by-events : (list : List Turn) → toEach list (answersTo step (pair free free) (eventsOf list)) ≡ toEach list (answersTo event (pair free free) (eventsOf list))
-    by-events list = ap (toEach list) (computed none none-keeps (pair free free) (entering (pairs-are-idle .0)) (eventsOf list) .1)
+    by-events list = ap (toEach list) (computed none none-keeps (pair free free) (entering (pairs-are-ready .0)) (eventsOf list) .1)

@@ -24,7 +24,7 @@ module _ (place : Place) (k : ℕ) where
     pub sent : (word : ℕ) (more : List ℕ) → isSent word ≡ true → P Anything more → P Anything (word ∷ more)
     pub read : (word : ℕ) (more : List ℕ) → isRead word ≡ true → P Anything more → P Anything (word ∷ more)
     pub named : (word : ℕ) (more : List ℕ) → isNaming k word ≡ true → P Anything more → P Anything (word ∷ more)
-    pub first : (word : ℕ) (more : List ℕ) → isSent word ≡ true → isFirstByte place (valueOf word) ≡ true → P Anything more → P AddressByte (word ∷ more)
+    pub first : (word : ℕ) (more : List ℕ) → isF8 word ≡ false → isSent word ≡ true → isFirstByte place (valueOf word) ≡ true → P Anything more → P AddressByte (word ∷ more)
     pub f8 : (word : ℕ) (more : List ℕ) → isF8 word ≡ true → P ChoiceByte more → P AddressByte (word ∷ more)
     pub choice : (word : ℕ) (more : List ℕ) → isSent word ≡ true → isAddressOf 0b1010 place (valueOf word) ≡ true → P Anything more → P ChoiceByte (word ∷ more)
 
@@ -59,13 +59,13 @@ module _ (place : Place) (k : ℕ) where
         go true is held later = cases .f8 word more is (later ChoiceByte held)
         go false is held later =
             let rest = and-right (isSent word) _ held in
-            cases .first word more (and-left _ _ held) (and-left _ _ rest) (later Anything (and-right (isFirstByte place (valueOf word)) _ rest))
+            cases .first word more is (and-left _ _ held) (and-left _ _ rest) (later Anything (and-right (isFirstByte place (valueOf word)) _ rest))
     by-cases ChoiceByte (word ∷ more) goes =
         let rest = and-right (isSent word) _ goes in
         cases .choice word more (and-left _ _ goes) (and-left _ _ rest) (by-cases Anything more (and-right (isAddressOf 0b1010 place (valueOf word)) _ rest))
 
     -- a turn is a run, or one event that names k
-    pub turn-by-cases : (Q : List ℕ → Type 0) → ((events : List ℕ) → P Anything events → Q events) → ((word : ℕ) → isNaming k word ≡ true → Q (word ∷ []))
+    pub turn-by-cases : (Q : List ℕ → Type 0) → ((word : ℕ) (more : List ℕ) → isStart word ≡ true → P AddressByte more → Q (word ∷ more)) → ((word : ℕ) → isNaming k word ≡ true → Q (word ∷ []))
         → (events : List ℕ) → isTurnAt place k events ≡ true
         → Q events
     unfolding isTurnAt
@@ -73,6 +73,6 @@ module _ (place : Place) (k : ℕ) where
     turn-by-cases Q run named (word ∷ more) is = go (isStart word) refl is
       where
         go : (starts : Bool) → isStart word ≡ starts → cond starts (goesOn place k AddressByte more) (isNaming k word && eqb (length more) 0) ≡ true → Q (word ∷ more)
-        go true starts held = run (word ∷ more) (cases .start word more starts (by-cases AddressByte more held))
+        go true starts held = run word more starts (by-cases AddressByte more held)
         go false starts held =
             only-one (λ (rest : List ℕ). Q (word ∷ rest)) more (and-right (isNaming k word) _ held) (named word (and-left _ _ held))

@@ -1,9 +1,10 @@
 mod Asked
+mod Resting
+pub mod Entering
 pub mod Alone
 mod Stepping
 mod Event
 mod Bystander
-mod Resting
 mod During
 mod Others
 mod Grammar
@@ -11,6 +12,7 @@ pub mod Allowed
 mod Turn
 pub mod OneTurn
 mod Lists
+pub mod Renamed
 mod Same
 pub mod Turns
 pub mod Acknowledged
@@ -19,5 +21,6 @@ pub mod Ran
 pub mod Setup
 mod Computing
 pub mod Examples
+pub mod Accepted
 mod OneCounter
 pub mod Teeth

@@ -23,8 +23,9 @@ use Rattle.lineup.specs.Chips.{chipAt, controlAt, placeOf, placesOf}
 use Rattle.bus.specs.declared.Bus.{Bus}
 use Rattle.bus.specs.Step.{entryChecks}
 use Rattle.promises.proofs.Formed.{formed-of, of-formed, ready-of, of-ready}
-use Rattle.turns.specs.Faults.{movedTo, shared}
-use Rattle.turns.proofs.Stepping.{Entering}
+use Rattle.turns.specs.Benches.{movedTo, shared}
+use Rattle.turns.specs.Undisturbed.{Whole}
+use Rattle.turns.proofs.Entering.{Entering}
 use Rattle.turns.proofs.Computing.{Keeps}
 
 module _ (at : ℕ) where
@@ -49,12 +50,12 @@ module _ (at : ℕ) where
       (and-right (isSetUp held && countersFit held) _ fits))
       (and-right (controlFits held) _ formed)
 
-  module _ (bus : Bus) (array security : List ℕ) (four : length (bus .chips) ≡ 4) where
+  module _ (bus : Bus) (array security : List ℕ) (whole : Whole bus) where
     abbrev moved : Bus
     moved = record { count = bus .count; chips = map (movedTo at) (bus .chips) }
 
     here : (i : ℕ) → i < 4 → chipAt (moved .chips) i ≡ movedTo at (chipAt (bus .chips) i)
-    here i below = each-moves (bus .chips) i (omega (arith, four))
+    here i below = each-moves (bus .chips) i (omega (arith, whole .four))
 
     same-places : placesOf (moved .chips) ≡ placesOf (bus .chips)
     unfolding placesOf
@@ -72,7 +73,7 @@ module _ (at : ℕ) where
           fit = λ i below. rw (here i (omega (arith, most))) (still-formed (chipAt (bus .chips) i) (was .fit i below));
           apart = λ i j below before. rw (controlAt, here i (omega (arith, most)), here j (omega (arith, most))) (was .apart i j below before);
         }) in
-        record { four = length-map (bus .chips) (movedTo at) ∙ four; enters = of-ready moved array security (now, rw same-places array-fits, rw same-places security-fits) }
+        record { whole = record { four = length-map (bus .chips) (movedTo at) ∙ whole .four; marks = λ i below. ap (λ (c : Chip). length (c .load .marks)) (here i below) ∙ whole .marks i below }; enters = of-ready moved array security (now, rw same-places array-fits, rw same-places security-fits) }
 
 pub shared-keeps : Keeps shared
-shared-keeps world word made e = still-enters _ (made .0 .bus) (made .1) (made .2) (e .four) (e .enters)
+shared-keeps world word made e = still-enters _ (made .0 .bus) (made .1) (made .2) (e .whole) (e .enters)

@@ -1,4 +1,4 @@
--- One turn on an idle bus: the bus is idle again, the other chips and their shares are as they were, and chip k, its shares and the answers
+-- One turn on a bus that is ready for turns: it is ready again, the other chips and their shares are as they were, and chip k, its shares and the answers
 -- are those of k alone on the line. All of demand 3 is made of this.
 use Prim.Native.Nat.{ℕ, zero, suc, _<_, _≤_}
 use native.Mathlib.Decide.{decLt}
@@ -9,6 +9,7 @@ use mathlib.Core.Path.{_≡_, _∙_, refl, ap, subst}
 use lib.Dec.{eqb, ltb}
 use lib.ListN.{getD}
 use borrow.Author.Tests.{eqb-true, eqb-false, ltb-true}
+use Rattle.base.specs.Fold.{upTo}
 use Rattle.base.proofs.Fold.{and-left, and-right, all-at, all-each, any-pair-none}
 use Rattle.parts.specs.Part.{geometryOf}
 use Rattle.parts.specs.Address.{shareAddress}
@@ -27,14 +28,15 @@ use Rattle.turns.specs.Turn.{Turn, Anything, isTurnAt, isTurn}
 use Rattle.turns.specs.Shuffle.{isExcepted}
 use Rattle.turns.specs.Alone.{World, alone, renamed}
 use Rattle.turns.specs.Playing.{after, answersTo}
-use Rattle.turns.specs.Undisturbed.{Idle}
-use Rattle.turns.proofs.Stepping.{entering}
+use Rattle.turns.specs.Undisturbed.{Ready}
+use Rattle.turns.proofs.Entering.{entering}
+use Rattle.turns.proofs.Alone.{alone-enters, alone-whole}
 use Rattle.turns.proofs.Others.{Others}
 use Rattle.turns.proofs.During.{During, excepted, Went}
 use Rattle.turns.proofs.Grammar.{turn-by-cases}
 use Rattle.turns.proofs.Turn.{Leads, named-leads, each-leads}
 
-module _ (began : World) (idle : Idle began) where
+module _ (began : World) (ready : Ready began) where
   abbrev count : ℕ
   count = began .0 .count
 
@@ -45,11 +47,11 @@ module _ (began : World) (idle : Idle began) where
   places = placesOf chips
 
   entry : Entered (began .0) (began .1) (began .2)
-  entry = entered (began .0) (began .1) (began .2) (idle .enters)
+  entry = entered (began .0) (began .1) (began .2) (ready .enters)
 
   at-rest : (j : ℕ) → j < count → isAtRest (chipAt chips j) ≡ true
   unfolding isIdle
-  at-rest j below = all-at (λ (i : ℕ). isAtRest (chipAt chips i)) (placed count) j (idle .idle) (omega (arith, entry .all-placed))
+  at-rest j below = all-at (λ (i : ℕ). isAtRest (chipAt chips i)) (placed count) j (ready .idle) (omega (arith, entry .all-placed))
 
   -- no two chips match one address byte: the last of set-up's checks
   apart : (i j : ℕ) → i < count → j < i → sharedAddress places i j ≡ false
@@ -72,7 +74,7 @@ module _ (began : World) (idle : Idle began) where
       record {
         below = below;
         at-rest = at-rest;
-        marked = λ j before. idle .marks j (omega (arith, entry .chips-most));
+        marked = λ j before. ready .whole .marks j (omega (arith, entry .chips-most));
         unshared = λ j before differ.
             subst (λ (p : Place). shareAddress (geometryOf (placeAt places k .part)) (placeAt places k .strap) (geometryOf (p .part)) (p .strap) ≡ false)
             (place-at chips j (omega (arith, entry .chips-most)))
@@ -82,8 +84,7 @@ module _ (began : World) (idle : Idle began) where
   begins : (k : ℕ) → During k Anything began began
   begins k =
       record {
-        entering = entering idle;
-        marks = idle .marks;
+        entering = entering ready;
         count = refl;
         board = refl;
         rest = λ i past. refl;
@@ -96,13 +97,13 @@ module _ (began : World) (idle : Idle began) where
       let place = placeAt places k in
       turn-by-cases place k (Leads k place began (others k below)) (each-leads k place began (others k below))
       (λ (turn : List ℕ). Went k false turn began began)
-      (λ run leads. leads false began tt (begins k))
+      (λ word more is leads. each-leads k place began (others k below) .start word more is leads false began tt (begins k))
       (λ word is. named-leads k place began (others k below) word is (begins k))
       events
 
 -- what a turn of chip k leaves
 pub record Leaves (began : World) (k : ℕ) (events : List ℕ) : Type 0 where
-  pub idle : Idle (after step began events)
+  pub ready : Ready (after step began events)
   pub count : after step began events .0 .count ≡ began .0 .count
   pub board : placesOf (after step began events .0 .chips) ≡ placesOf (began .0 .chips)
   pub rest : (i : ℕ) → began .0 .count ≤ i → chipAt (after step began events .0 .chips) i ≡ chipAt (began .0 .chips) i
@@ -111,12 +112,12 @@ pub record Leaves (began : World) (k : ℕ) (events : List ℕ) : Type 0 where
   pub answers : (i : ℕ) → isExcepted events i ≡ false
       → getD (answersTo step began events) i 0 ≡ getD (answersTo step (alone k began) (map renamed events)) i 0
 
-pub turn-leaves : (began : World) → Idle began → (turn : Turn) → isTurn (began .0 .count) (placesOf (began .0 .chips)) turn ≡ true
+pub turn-leaves : (began : World) → Ready began → (turn : Turn) → isTurn (began .0 .count) (placesOf (began .0 .chips)) turn ≡ true
     → Leaves began (turn .chip) (turn .events)
 unfolding isIdle
-turn-leaves began idle turn is =
+turn-leaves began ready turn is =
     record {
-      idle = record { four = now .entering .four; marks = now .marks; enters = now .entering .enters; idle = at-rest-again };
+      ready = record { whole = now .entering .whole; enters = now .entering .enters; idle = at-rest-again };
       count = now .count;
       board = now .board;
       rest = now .rest;
@@ -136,7 +137,7 @@ turn-leaves began idle turn is =
     below = ltb-true _ _ (and-left _ _ is)
 
     whole : Went k false (turn .events) began began
-    whole = went began idle k (turn .events) below (and-right (ltb k (began .0 .count)) _ is)
+    whole = went began ready k (turn .events) below (and-right (ltb k (began .0 .count)) _ is)
 
     ends : World
     ends = after step began (turn .events)
@@ -147,9 +148,19 @@ turn-leaves began idle turn is =
     rests : (j : ℕ) → j < began .0 .count → (same : Bool) → eqb j k ≡ same → isAtRest (chipAt (ends .0 .chips) j) ≡ true
     rests j before true same = rw (eqb-true j k same) (whole .rests)
     rests j before false same =
-        ap (λ (w : World). isAtRest (chipAt (w .0 .chips) 0)) (now .others j before (eqb-false j k same)) ∙ at-rest began idle j before
+        ap (λ (w : World). isAtRest (chipAt (w .0 .chips) 0)) (now .others j before (eqb-false j k same)) ∙ at-rest began ready j before
 
     at-rest-again : isIdle (ends .0) ≡ true
     at-rest-again =
         all-each (λ (i : ℕ). isAtRest (chipAt (ends .0 .chips) i)) (placed (ends .0 .count))
         (λ j below. rests j (omega (arith, below, now .count, entered (ends .0) (ends .1) (ends .2) (now .entering .enters) .all-placed)) (eqb j k) refl)
+
+-- a chip alone on the line is ready for its turns too
+pub alone-ready : (world : World) → Ready world → (k : ℕ) → k < world .0 .count → Ready (alone k world)
+unfolding isIdle upTo
+alone-ready world ready k below =
+    record {
+      whole = alone-whole world k (omega (arith, below, entry world ready .chips-most)) (ready .whole);
+      enters = alone-enters world (ready .enters) k below;
+      idle = rw (at-rest world ready k below);
+    }

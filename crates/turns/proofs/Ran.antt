@@ -1,12 +1,11 @@
 -- Demand 3 of what `Bus::run` returns and leaves, by its contract alone: a run that passes is its steps, so the bus and the stores it
 -- leaves are those of playing its list, and its answers stand first in the buffer.
-use Prim.Native.Nat.{ℕ, zero, suc, _<_, _≤_}
-use native.Mathlib.Decide.{decLt}
+use Prim.Native.Nat.{ℕ, zero, suc, _+_, _<_, _≤_}
 use native.Mathlib.Omega.{arith}
-use mathlib.Core.Bool.{true, false, cond, false≢true}
+use mathlib.Core.Bool.{true}
 use mathlib.Core.List.{List, [], _∷_, _++_}
-use mathlib.Core.Path.{_≡_, _∙_, refl, sym, ap}
-use lib.ListN.{length, getD, take, drop, List·getD-append, List·getD-eq-default}
+use mathlib.Core.Path.{_≡_, _∙_, refl, sym, ap, subst}
+use lib.ListN.{length, getD, take, drop}
 use lib.Seq.{length-take-le, take-suc, take-length, drop-cons, set-at, append-snoc}
 use borrow.Author.Tests.{le-ltb}
 use contract.Lifetimes.{Lfts}
@@ -14,8 +13,6 @@ use borrow.Fn.Kinds.{Dens, resT, endedOf}
 use denote.Ref.{now}
 use denote.Triple.Clauses.{AtExit}
 use Rattle.base.specs.Fold.{upTo}
-use Rattle.base.specs.Word.{wordOf}
-use Rattle.base.proofs.Fold.{and-right}
 use Rattle.refusal.specs.declared.Verdict.{Verdict}
 use Rattle.refusal.specs.declared.Verdict.the-variants.{Passed}
 use Rattle.refusal.specs.Checks.{firstOf}
@@ -25,13 +22,15 @@ use Rattle.bus.specs.Run.{Tape, run, outcome}
 use Rattle.bus.proofs.Bus.run.Kinds as run-kinds
 use Rattle.bus.proofs.Bus.run.Reads as run-reads
 use Rattle.promises.proofs.Runs.{stepAt, run-is-its-steps}
-use Rattle.turns.specs.Turn.{Turn, isStart, isF8}
-use Rattle.turns.specs.Shuffle.{eventsOf, Shuffle, answerOf, isExcepted}
+use Rattle.turns.specs.Turn.{Turn}
+use Rattle.turns.specs.Shuffle.{turnOf, beganAt, eventsOf, Shuffle, answerOf, isExcepted}
 use Rattle.turns.specs.Alone.{World, alone, ownTurns}
 use Rattle.turns.specs.Playing.{after, answersTo, Ending}
-use Rattle.turns.specs.Undisturbed.{Idle, Turns, Alike, AsAlone, isSomeFree}
+use Rattle.turns.specs.Undisturbed.{Ready, Turns, Alike, AsAlone, acknowledge}
 use Rattle.turns.proofs.Lists.{after-append, answers-append, answers-length, answers-past}
-use Rattle.turns.proofs.Alone.{alone-enters}
+use Rattle.turns.proofs.Entering.{Entering, entering}
+use Rattle.turns.proofs.Turns.{turns-pass}
+use Rattle.turns.proofs.OneTurn.{alone-ready}
 use Rattle.turns.proofs.Undisturbed.{undisturbed}
 
 module _ (bus : Bus) (array security events answers : List ℕ) where
@@ -94,30 +93,29 @@ bufferOf call = now (call .arguments .1 .1 .1 .1 .0)
 abbrev pub left : Call → Ending
 left call = ((call .result .bus, now (call .at-exit .1 .0), now (call .at-exit .1 .1 .0)), now (call .at-exit .1 .1 .1 .1 .0))
 
--- it plays a list of turns from a world, and has room for the answers
-pub record Plays (call : Call) (world : World) (turns : List Turn) : Type 0 where
+-- it plays a list of events from a world, and has room for the answers
+pub record Plays (call : Call) (world : World) (events : List ℕ) : Type 0 where
   pub from : given call ≡ world
-  pub list : listOf call ≡ eventsOf turns
-  pub room : length (eventsOf turns) ≤ length (bufferOf call)
+  pub list : listOf call ≡ events
+  pub room : length events ≤ length (bufferOf call)
 
 -- its outcome is then that of `run`
-as-run : {call : Call} {world : World} {turns : List Turn} → Plays call world turns
-    → outcome (call .result) (left call .0 .1) (left call .0 .2) (left call .1) ≡ run (world .0) (world .1) (world .2) (eventsOf turns) (bufferOf call)
+as-run : {call : Call} {world : World} {events : List ℕ} → Plays call world events
+    → outcome (call .result) (left call .0 .1) (left call .0 .2) (left call .1) ≡ run (world .0) (world .1) (world .2) events (bufferOf call)
 as-run {call} {world} plays =
     call .ensured
     ∙ ap (λ (from : World). run (from .0) (from .1) (from .2) (listOf call) (bufferOf call)) (plays .from)
     ∙ ap (λ (list : List ℕ). run (world .0) (world .1) (world .2) list (bufferOf call)) (plays .list)
 
 -- it passes, and ends where its list does; past the answers the buffer is as it was
-record Returned (call : Call) (world : World) (turns : List Turn) : Type 0 where
+record Returned (call : Call) (world : World) (events : List ℕ) : Type 0 where
   verdict : call .result .verdict ≡ Passed
-  ends : left call .0 ≡ after step world (eventsOf turns)
-  answers : left call .1 ≡ answersTo step world (eventsOf turns) ++ drop (length (eventsOf turns)) (bufferOf call)
+  ends : left call .0 ≡ after step world events
+  answers : left call .1 ≡ answersTo step world events ++ drop (length events) (bufferOf call)
 
-returned : {call : Call} {world : World} {turns : List Turn} → length (world .0 .chips) ≡ 4 → firstOf (entryChecks (world .0) (world .1) (world .2)) ≡ Passed
-    → Plays call world turns → Returned call world turns
-returned {call} {world} {turns} four enters plays =
-    let is = as-run plays ∙ run-plays (world .0) (world .1) (world .2) (eventsOf turns) (bufferOf call) four enters (plays .room) in
+returned : {call : Call} {world : World} {events : List ℕ} → Entering world → Plays call world events → Returned call world events
+returned {call} {world} {events} e plays =
+    let is = as-run plays ∙ run-plays (world .0) (world .1) (world .2) events (bufferOf call) (e .whole .four) (e .enters) (plays .room) in
     record {
       verdict = ap (λ (ran : Verdict × Tape). ran .0) is;
       ends = ap (λ (ran : Verdict × Tape). (ran .1 .0, ran .1 .1, ran .1 .2)) is;
@@ -125,58 +123,52 @@ returned {call} {world} {turns} four enters plays =
     }
 
 -- what follows the answers is not looked at
-own-answer : {call : Call} {world : World} {turns : List Turn} → Returned call world turns → (k j i : ℕ)
+own-answer : {call : Call} {world : World} (turns : List Turn) → Returned call world (eventsOf turns) → (k j i : ℕ)
     → answerOf k turns (left call .1) j i ≡ answerOf k turns (answersTo step world (eventsOf turns)) j i
-own-answer {world} {turns} back k j i =
+own-answer {world} turns back k j i =
     ap (λ (answers : List ℕ). answerOf k turns answers j i) (back .answers)
     ∙ ap (λ (own : List (List ℕ)). getD (getD own j []) i 0) (answers-past k turns _ _ (answers-length step world (eventsOf turns)))
 
-excepted-inside : (events : List ℕ) (i : ℕ) → isExcepted events i ≡ true → i < length events
-excepted-inside events zero is = absurd (false≢true is)
-excepted-inside events (suc i) is = go (decLt (suc i) (length events))
-  where
-    go : Dec (suc i < length events) → suc i < length events
-    go (yes p) = p
-    go (no p) =
-        let here : isF8 (getD events (suc i) 0) ≡ true = and-right (isStart (getD events i 0)) _ is in
-        absurd (false≢true (rw (List·getD-eq-default events 0 {n = suc i} (omega arith)) at here))
-
-module _ (world : World) (idle : Idle world) (turns : List Turn) (are-turns : Turns world turns) where
+module _ (world : World) (ready : Ready world) (turns : List Turn) (are-turns : Turns world turns) where
   -- a call of a list of turns, and a call of a shuffle of it, each with a buffer of its own
-  pub shuffled-runs : (others : List Turn) → Shuffle turns others → (one other : Call) → Plays one world turns → Plays other world others
+  pub shuffled-runs : (others : List Turn) → Shuffle turns others → (one other : Call) → Plays one world (eventsOf turns) → Plays other world (eventsOf others)
       → (one .result .verdict ≡ Passed) × (other .result .verdict ≡ Passed) × Alike turns others (left one) (left other)
   shuffled-runs others shuffle one other plays plays′ =
-      let back = returned (idle .four) (idle .enters) plays in
-      let back′ = returned (idle .four) (idle .enters) plays′ in
-      let alike = undisturbed .shuffled world turns others idle are-turns shuffle in (
+      let back = returned (entering ready) plays in
+      let back′ = returned (entering ready) plays′ in
+      let alike = undisturbed .shuffled world turns others ready are-turns shuffle in (
         back .verdict,
         back′ .verdict,
         record {
           ends = back .ends ∙ alike .ends ∙ sym (back′ .ends);
-          answers = λ k j i plain. own-answer back k j i ∙ alike .answers k j i plain ∙ sym (own-answer back′ k j i);
+          answers = λ k j i plain. own-answer turns back k j i ∙ alike .answers k j i plain ∙ sym (own-answer others back′ k j i);
         },
       )
 
   -- a call of a list of turns, and a call of those of chip k where it is alone
-  pub runs-as-alone : (k : ℕ) → k < world .0 .count → (one byItself : Call) → Plays one world turns → Plays byItself (alone k world) (ownTurns k turns)
+  pub runs-as-alone : (k : ℕ) → k < world .0 .count → (one byItself : Call) → Plays one world (eventsOf turns) → Plays byItself (alone k world) (eventsOf (ownTurns k turns))
       → (one .result .verdict ≡ Passed) × (byItself .result .verdict ≡ Passed) × AsAlone k turns (left one) (left byItself)
   runs-as-alone k below one byItself plays plays′ =
-      let back = returned (idle .four) (idle .enters) plays in
-      let back′ = returned refl (alone-enters world (idle .enters) k below) plays′ in
-      let alike = undisturbed .by-itself world turns idle are-turns k below in (
+      let back = returned (entering ready) plays in
+      let back′ = returned (entering (alone-ready world ready k below)) plays′ in
+      let alike = undisturbed .by-itself world turns ready are-turns k below in (
         back .verdict,
         back′ .verdict,
         record {
           ends = ap (alone k) (back .ends) ∙ alike .ends ∙ sym (back′ .ends);
-          answers = λ j i plain. own-answer back k j i ∙ alike .answers j i plain ∙ sym (own-answer back′ 0 j i);
+          answers = λ j i plain. own-answer turns back k j i ∙ alike .answers j i plain ∙ sym (own-answer (ownTurns k turns) back′ 0 j i);
         },
       )
 
-  -- the excepted answer, where it stands in the buffer
-  pub runs-acknowledge : (one : Call) → Plays one world turns → (i : ℕ) → isExcepted (eventsOf turns) i ≡ true
-      → getD (left one .1) i 0 ≡ wordOf 0 (cond (isSomeFree (after step world (take i (eventsOf turns)) .0)) 0x01 0x00)
-  runs-acknowledge one plays i is =
-      let inside : i < length (answersTo step world (eventsOf turns)) = omega (arith, answers-length step world (eventsOf turns), excepted-inside (eventsOf turns) i is) in
-      ap (λ (answers : List ℕ). getD answers i 0) (returned (idle .four) (idle .enters) plays .answers)
-      ∙ List·getD-append (answersTo step world (eventsOf turns)) _ 0 i inside
-      ∙ undisturbed .excepted world turns idle are-turns i is
+  -- the excepted answer, and a call of what stands before it: the bus that this hands back says whether it is acknowledged
+  pub runs-acknowledge : (k j i : ℕ) → isExcepted (turnOf k turns j) i ≡ true → (one before : Call) → Plays one world (eventsOf turns)
+      → Plays before world (take (beganAt k turns j + i) (eventsOf turns))
+      → answerOf k turns (left one .1) j i ≡ acknowledge (left before .0 .0)
+  runs-acknowledge k j i is one before plays plays′ =
+      own-answer turns (returned (entering ready) plays) k j i
+      ∙ undisturbed .excepted world turns ready are-turns k j i is
+      ∙ ap (λ (w : World). acknowledge (w .0)) (sym (returned (entering ready) plays′ .ends))
+
+  -- and what a call of turns hands back is ready for more
+  pub runs-end-ready : (one : Call) → Plays one world (eventsOf turns) → Ready (left one .0)
+  runs-end-ready one plays = subst Ready (sym (returned (entering ready) plays .ends)) (turns-pass turns world ready are-turns .ready)

@@ -23,7 +23,7 @@ use Rattle.lineup.proofs.Filled.{filled-at, filled-past}
 use Rattle.bus.specs.Setup.{setUpChecks, emptyChip, freshChips, setUpBy, setUp}
 use Rattle.promises.proofs.Setup.{set-up-is-well-formed, set-up-has-four}
 use Rattle.turns.specs.Idle.{isAtRest, isIdle}
-use Rattle.turns.specs.Undisturbed.{Idle}
+use Rattle.turns.specs.Undisturbed.{Ready}
 
 fresh-rests : (part strap : ℕ) → isAtRest (fresh part strap) ≡ true
 fresh-rests part strap = rw (within-emptied 0 empty)
@@ -44,14 +44,13 @@ module _ (count : ℕ) (places : List Place) where
       go (no p) =
           rw (filled-past freshAt (replicate 4 emptyChip) (placed count) i noChip (omega arith), getD-replicate 4 i emptyChip noChip below) (all 0 0)
 
-pub set-up-is-idle : (count : ℕ) (places : List Place) (array security : List ℕ) → setUp count places array security .verdict ≡ Passed
-    → Idle (setUp count places array security .bus, array, security)
+pub set-up-is-ready : (count : ℕ) (places : List Place) (array security : List ℕ) → setUp count places array security .verdict ≡ Passed
+    → Ready (setUp count places array security .bus, array, security)
 unfolding setUp isIdle
-set-up-is-idle count places array security passed =
+set-up-is-ready count places array security passed =
     let (marks, idle) = go (firstOf (setUpChecks count places array security)) passed in
     record {
-      four = set-up-has-four count places array security;
-      marks = marks;
+      whole = record { four = set-up-has-four count places array security; marks = marks };
       enters = set-up-is-well-formed count places array security passed;
       idle = idle;
     }

@@ -5,7 +5,6 @@ use native.Mathlib.Omega.{arith}
 use mathlib.Core.Bool.{Bool, true, false, cond}
 use mathlib.Core.List.{List}
 use mathlib.Core.Path.{_≡_, _∙_, refl, ap}
-use lib.ListN.{length}
 use Rattle.chip.specs.declared.Chip.{Chip}
 use Rattle.refusal.specs.declared.Refusal.the-variants.{Clash}
 use Rattle.refusal.specs.declared.Verdict.{Verdict}
@@ -15,31 +14,16 @@ use Rattle.order.specs.declared.Order.{Order}
 use Rattle.order.specs.Order.{eventOf}
 use Rattle.lineup.specs.Chips.{chipAt, placesOf}
 use Rattle.line.specs.Line.{clash}
-use Rattle.bus.specs.Step.{entryChecks, eventChecks, refused, played, stepBy, event, step}
+use Rattle.bus.specs.Step.{eventChecks, refused, played, stepBy, event, step}
 use Rattle.bus.proofs.Entry.{Entered, entered}
 use Rattle.promises.specs.Own.{own}
 use Rattle.promises.proofs.Chips.{each-chip-takes-its-own, the-rest-stays}
-use Rattle.promises.proofs.Kept.{places-kept, entry-kept}
+use Rattle.promises.proofs.Kept.{places-kept}
 use Rattle.promises.proofs.Runs.{step-is-event}
 use Rattle.turns.specs.Alone.{World, alone, onlyBus}
 use Rattle.turns.specs.Playing.{Made, stepped, ledTo, afterOne}
-use Rattle.turns.specs.Undisturbed.{Idle}
 use Rattle.turns.proofs.Asked.{Legal}
-
--- four places, and the checks at entry pass
-pub record Entering (world : World) : Type 0 where
-  pub four : length (world .0 .chips) ≡ 4
-  pub enters : firstOf (entryChecks (world .0) (world .1) (world .2)) ≡ Passed
-
-pub entering : {world : World} → Idle world → Entering world
-entering idle = record { four = idle .four; enters = idle .enters }
-
-pub entering-kept : (world : World) (word : ℕ) → Entering world → Entering (afterOne step world word)
-entering-kept world word e =
-    rw (step-is-event (world .0) (world .1) (world .2) word (e .enters)) (
-    let (enters, four) = entry-kept (world .0) (world .1) (world .2) word (e .four) (e .enters) in
-    record { four = four; enters = enters }
-    )
+use Rattle.turns.proofs.Entering.{Entering}
 
 module _ (world : World) (word : ℕ) (order : Order) (e : Entering world) (legal : Legal (world .0 .count) word order) where
   abbrev count : ℕ
@@ -86,23 +70,23 @@ module _ (world : World) (word : ℕ) (order : Order) (e : Entering world) (lega
   unfolding played
   board-kept =
       led (λ (next : World). placesOf (next .0 .chips) ≡ placesOf chips) refl
-      (places-kept order count chips (world .1) (world .2) (e .four) (entry .array-fits) (entry .security-fits))
+      (places-kept order count chips (world .1) (world .2) (e .whole .four) (entry .array-fits) (entry .security-fits))
 
   pub rest-kept : (i : ℕ) → world .0 .count ≤ i → chipAt (afterOne step world word .0 .chips) i ≡ chipAt (world .0 .chips) i
   unfolding played
   rest-kept i past =
       led (λ (next : World). chipAt (next .0 .chips) i ≡ chipAt chips i) refl
-      (the-rest-stays order count chips (world .1) (world .2) (e .four) (entry .array-fits) (entry .security-fits) i (omega (arith, entry .all-placed)))
+      (the-rest-stays order count chips (world .1) (world .2) (e .whole .four) (entry .array-fits) (entry .security-fits) i (omega (arith, entry .all-placed)))
 
   -- played, each chip has made its own step
   pub each-moves : clash (eventOf order) (world .0 .count) (world .0 .chips) ≡ false → (i : ℕ) → i < world .0 .count
       → let mine = own order (world .0 .chips) (world .1) (world .2) i in alone i (afterOne step world word) ≡ (onlyBus (mine .0 .chip), mine .1, mine .2)
   unfolding played
   each-moves is i below =
-      let (chip-is, array-is, security-is) = each-chip-takes-its-own order count chips (world .1) (world .2) (e .four) (entry .array-fits) (entry .security-fits) i (omega (arith, entry .all-placed)) in
+      let (chip-is, array-is, security-is) = each-chip-takes-its-own order count chips (world .1) (world .2) (e .whole .four) (entry .array-fits) (entry .security-fits) i (omega (arith, entry .all-placed)) in
       ap (λ (next : Made). alone i (ledTo next)) (step-plays is)
       ∙ rw (
-        places-kept order count chips (world .1) (world .2) (e .four) (entry .array-fits) (entry .security-fits),
+        places-kept order count chips (world .1) (world .2) (e .whole .four) (entry .array-fits) (entry .security-fits),
         chip-is,
         array-is,
         security-is,

@@ -131,7 +131,7 @@ module _ (k : ℕ) (place : Place) (began : World) (b : Others k place began) wh
         read = λ word more is later started now flag d.
             between-leads word more later started now d _ (read-asks (now .0 .count) word is) refl (λ j before differ. sits-read k place began b j before differ _);
         named = naming-leads;
-        first = first-leads;
+        first = λ word more other. first-leads word more;
         f8 = f8-leads;
         choice = choice-leads;
       }

@@ -15,24 +15,24 @@ use Rattle.turns.specs.Turn.{Turn, isTurn}
 use Rattle.turns.specs.Shuffle.{areTurns, eventsOf, turnsOf, answersOf, isExcepted}
 use Rattle.turns.specs.Alone.{World, alone, renamed, ownTurn, ownTurns}
 use Rattle.turns.specs.Playing.{after, answersTo}
-use Rattle.turns.specs.Undisturbed.{Idle, Turns}
+use Rattle.turns.specs.Undisturbed.{Ready, Turns}
 use Rattle.turns.proofs.Lists.{after-append, answers-cut}
 use Rattle.turns.proofs.OneTurn.{Leaves, turn-leaves}
 
--- what turns keep from one world to another: an idle bus, its count and the places past it
+-- what turns keep from one world to another: a bus that is ready, its count and the places past it
 pub record Passes (world ends : World) : Type 0 where
-  pub idle : Idle ends
+  pub ready : Ready ends
   pub count : ends .0 .count ≡ world .0 .count
   pub rest : (i : ℕ) → world .0 .count ≤ i → chipAt (ends .0 .chips) i ≡ chipAt (world .0 .chips) i
 
 -- the first turn of a list, and where the others begin
-module _ (world : World) (idle : Idle world) (turn : Turn) (rest : List Turn) (are : Turns world (turn ∷ rest)) where
+module _ (world : World) (ready : Ready world) (turn : Turn) (rest : List Turn) (are : Turns world (turn ∷ rest)) where
   abbrev next : World
   next = after step world (turn .events)
 
   leaves : Leaves world (turn .chip) (turn .events)
   unfolding areTurns
-  leaves = turn-leaves world idle turn (and-left _ _ are)
+  leaves = turn-leaves world ready turn (and-left _ _ are)
 
   are-later : Turns next rest
   unfolding areTurns
@@ -49,45 +49,45 @@ module _ (world : World) (idle : Idle world) (turn : Turn) (rest : List Turn) (a
   other-next : (k : ℕ) → k < world .0 .count → (turn .chip ≡ k → ⊥) → alone k next ≡ alone k world
   other-next k below differ = leaves .others k below (λ (is : k ≡ turn .chip). differ (sym is))
 
-pub turns-pass : (turns : List Turn) (world : World) → Idle world → Turns world turns → Passes world (after step world (eventsOf turns))
+pub turns-pass : (turns : List Turn) (world : World) → Ready world → Turns world turns → Passes world (after step world (eventsOf turns))
 unfolding after eventsOf
-turns-pass [] world idle are = record { idle = idle; count = refl; rest = λ i past. refl }
-turns-pass (turn ∷ rest) world idle are =
-    let first = leaves world idle turn rest are in
-    let later = turns-pass rest (after step world (turn .events)) (first .idle) (are-later world idle turn rest are) in
+turns-pass [] world ready are = record { ready = ready; count = refl; rest = λ i past. refl }
+turns-pass (turn ∷ rest) world ready are =
+    let first = leaves world ready turn rest are in
+    let later = turns-pass rest (after step world (turn .events)) (first .ready) (are-later world ready turn rest are) in
     subst (Passes world) (sym (after-append step world (turn .events) (eventsOf rest))) (
     record {
-      idle = later .idle;
+      ready = later .ready;
       count = later .count ∙ first .count;
       rest = λ i past. later .rest i (omega (arith, past, first .count)) ∙ first .rest i past;
     }
     )
 
-pub ends-alone : (turns : List Turn) (world : World) → Idle world → Turns world turns → (k : ℕ) → k < world .0 .count
+pub ends-alone : (turns : List Turn) (world : World) → Ready world → Turns world turns → (k : ℕ) → k < world .0 .count
     → alone k (after step world (eventsOf turns)) ≡ after step (alone k world) (eventsOf (ownTurns k turns))
 unfolding after eventsOf turnsOf
-ends-alone [] world idle are k below = refl
-ends-alone (turn ∷ rest) world idle are k below =
-    let first = leaves world idle turn rest are in
+ends-alone [] world ready are k below = refl
+ends-alone (turn ∷ rest) world ready are k below =
+    let first = leaves world ready turn rest are in
     ap (alone k) (after-append step world (turn .events) (eventsOf rest))
-    ∙ ends-alone rest (after step world (turn .events)) (first .idle) (are-later world idle turn rest are) k (omega (arith, below, first .count))
+    ∙ ends-alone rest (after step world (turn .events)) (first .ready) (are-later world ready turn rest are) k (omega (arith, below, first .count))
     ∙ go (eqb (turn .chip) k) refl
   where
     go : (same : Bool) → eqb (turn .chip) k ≡ same
         → after step (alone k (after step world (turn .events))) (eventsOf (ownTurns k rest))
         ≡ after step (alone k world) (eventsOf (map ownTurn (cond same (turn .events ∷ turnsOf k rest) (turnsOf k rest))))
     go true is =
-        ap (λ (w : World). after step w (eventsOf (ownTurns k rest))) (own-next world idle turn rest are k (eqb-true _ _ is))
+        ap (λ (w : World). after step w (eventsOf (ownTurns k rest))) (own-next world ready turn rest are k (eqb-true _ _ is))
         ∙ sym (after-append step (alone k world) (map renamed (turn .events)) (eventsOf (ownTurns k rest)))
-    go false is = ap (λ (w : World). after step w (eventsOf (ownTurns k rest))) (other-next world idle turn rest are k below (eqb-false _ _ is))
+    go false is = ap (λ (w : World). after step w (eventsOf (ownTurns k rest))) (other-next world ready turn rest are k below (eqb-false _ _ is))
 
 -- the answers to the turns of chip k, in the list and alone
 module _ (k : ℕ) where
   abbrev inList : World → List Turn → List (List ℕ)
   inList world turns = answersOf k turns (answersTo step world (eventsOf turns))
 
-  abbrev byItself : World → List (List ℕ) → List (List ℕ)
-  byItself world own = answersOf 0 (map ownTurn own) (answersTo step world (eventsOf (map ownTurn own)))
+  abbrev inOwn : World → List (List ℕ) → List (List ℕ)
+  inOwn world own = answersOf 0 (map ownTurn own) (answersTo step world (eventsOf (map ownTurn own)))
 
   -- event i of the j-th turn gets the same answer in both, unless it is excepted
   abbrev Same : List (List ℕ) → List (List ℕ) → List (List ℕ) → Type 0
@@ -100,15 +100,15 @@ module _ (k : ℕ) where
   same-more events own a b one other first later zero i usual = first i usual
   same-more events own a b one other first later (suc j) i usual = later j i usual
 
-  pub answers-alone : (turns : List Turn) (world : World) → Idle world → Turns world turns → k < world .0 .count
-      → Same (turnsOf k turns) (inList world turns) (byItself (alone k world) (turnsOf k turns))
+  pub answers-alone : (turns : List Turn) (world : World) → Ready world → Turns world turns → k < world .0 .count
+      → Same (turnsOf k turns) (inList world turns) (inOwn (alone k world) (turnsOf k turns))
   unfolding turnsOf answersOf
-  answers-alone [] world idle are below = λ j i usual. refl
-  answers-alone (turn ∷ rest) world idle are below =
-      let first = leaves world idle turn rest are in
-      subst (λ (one : List (List ℕ)). Same (turnsOf k (turn ∷ rest)) one (byItself (alone k world) (turnsOf k (turn ∷ rest)))) (sym (answers-cut step world k turn rest))
+  answers-alone [] world ready are below = λ j i usual. refl
+  answers-alone (turn ∷ rest) world ready are below =
+      let first = leaves world ready turn rest are in
+      subst (λ (one : List (List ℕ)). Same (turnsOf k (turn ∷ rest)) one (inOwn (alone k world) (turnsOf k (turn ∷ rest)))) (sym (answers-cut step world k turn rest))
       (go (eqb (turn .chip) k) refl
-      (answers-alone rest (after step world (turn .events)) (first .idle) (are-later world idle turn rest are) (omega (arith, below, first .count))))
+      (answers-alone rest (after step world (turn .events)) (first .ready) (are-later world ready turn rest are) (omega (arith, below, first .count))))
     where
       next : World
       next = after step world (turn .events)
@@ -116,12 +116,12 @@ module _ (k : ℕ) where
       own : List (List ℕ)
       own = turnsOf k rest
 
-      go : (same : Bool) → eqb (turn .chip) k ≡ same → Same own (inList next rest) (byItself (alone k next) own)
+      go : (same : Bool) → eqb (turn .chip) k ≡ same → Same own (inList next rest) (inOwn (alone k next) own)
           → Same (cond same (turn .events ∷ own) own) (cond same (answersTo step world (turn .events) ∷ inList next rest) (inList next rest))
-          (byItself (alone k world) (cond same (turn .events ∷ own) own))
+          (inOwn (alone k world) (cond same (turn .events ∷ own) own))
       go true is later =
           subst (Same (turn .events ∷ own) (answersTo step world (turn .events) ∷ inList next rest)) (sym (answers-cut step (alone k world) 0 (ownTurn (turn .events)) (map ownTurn own)))
-          (same-more (turn .events) own (answersTo step world (turn .events)) (answersTo step (alone k world) (map renamed (turn .events))) (inList next rest) (byItself (after step (alone k world) (map renamed (turn .events))) own)
-          (own-answers world idle turn rest are k (eqb-true _ _ is))
-          (subst (λ (w : World). Same own (inList next rest) (byItself w own)) (own-next world idle turn rest are k (eqb-true _ _ is)) later))
-      go false is later = subst (λ (w : World). Same own (inList next rest) (byItself w own)) (other-next world idle turn rest are k below (eqb-false _ _ is)) later
+          (same-more (turn .events) own (answersTo step world (turn .events)) (answersTo step (alone k world) (map renamed (turn .events))) (inList next rest) (inOwn (after step (alone k world) (map renamed (turn .events))) own)
+          (own-answers world ready turn rest are k (eqb-true _ _ is))
+          (subst (λ (w : World). Same own (inList next rest) (inOwn w own)) (own-next world ready turn rest are k (eqb-true _ _ is)) later))
+      go false is later = subst (λ (w : World). Same own (inList next rest) (inOwn w own)) (other-next world ready turn rest are k below (eqb-false _ _ is)) later

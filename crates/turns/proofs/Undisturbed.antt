@@ -1,6 +1,6 @@
 -- Demand 3: chips do not disturb each other. Whatever the order, each chip ends as it does by itself, and worlds that are the same at every
 -- chip are the same.
-use Prim.Native.Nat.{ℕ, _<_, _≤_}
+use Prim.Native.Nat.{ℕ, _+_, _<_, _≤_}
 use native.Mathlib.Decide.{decLt}
 use native.Mathlib.Omega.{arith}
 use mathlib.Core.Bool.{true, false}
@@ -13,13 +13,13 @@ use Rattle.board.specs.declared.Place.{Place}
 use Rattle.lineup.specs.Chips.{placesOf}
 use Rattle.bus.specs.Step.{step}
 use Rattle.turns.specs.Turn.{Turn, isTurn}
-use Rattle.turns.specs.Shuffle.{areTurns, eventsOf, Shuffle, turnOf, answersOf, answerOf, isExcepted}
+use Rattle.turns.specs.Shuffle.{beganAt, areTurns, eventsOf, Shuffle, turnOf, answersOf, answerOf, isExcepted}
 use Rattle.turns.specs.Alone.{World, alone, ownTurn, ownTurns}
 use Rattle.turns.specs.Playing.{after, answersTo, ending}
-use Rattle.turns.specs.Faults.{ours}
-use Rattle.turns.specs.Undisturbed.{Idle, Turns, AsAlone, Undisturbed}
-use Rattle.turns.proofs.Stepping.{entering}
-use Rattle.turns.proofs.Lists.{shuffle-turns}
+use Rattle.turns.specs.Benches.{ours}
+use Rattle.turns.specs.Undisturbed.{Ready, Turns, AsAlone, Undisturbed}
+use Rattle.turns.proofs.Entering.{entering}
+use Rattle.turns.proofs.Lists.{answer-at, excepted-inside, excepted-at, shuffle-turns}
 use Rattle.turns.proofs.Same.{same-world}
 use Rattle.turns.proofs.Turns.{turns-pass, ends-alone, answers-alone}
 use Rattle.turns.proofs.Acknowledged.{f8-acknowledged}
@@ -33,12 +33,12 @@ no-answers count places k (turn ∷ rest) answers are past =
     rw (ne-eqb (turn .chip) k (λ same. omega (arith, same)))
     (no-answers count places k rest (drop (length (turn .events)) answers) (and-right (isTurn count places turn) _ are) past)
 
-by-itself : (world : World) (turns : List Turn) → Idle world → Turns world turns → (k : ℕ) → k < world .0 .count
+by-itself : (world : World) (turns : List Turn) → Ready world → Turns world turns → (k : ℕ) → k < world .0 .count
     → AsAlone k turns (ending step world turns) (ending step (alone k world) (ownTurns k turns))
-by-itself world turns idle are k below =
-    record { ends = ends-alone turns world idle are k below; answers = answers-alone k turns world idle are below }
+by-itself world turns ready are k below =
+    record { ends = ends-alone turns world ready are k below; answers = answers-alone k turns world ready are below }
 
-module _ (world : World) (turns others : List Turn) (idle : Idle world) (are : Turns world turns) (shuffle : Shuffle turns others) where
+module _ (world : World) (turns others : List Turn) (ready : Ready world) (are : Turns world turns) (shuffle : Shuffle turns others) where
   are-too : Turns world others
   are-too = shuffle-turns (world .0 .count) (placesOf (world .0 .chips)) turns others are shuffle
 
@@ -47,15 +47,15 @@ module _ (world : World) (turns others : List Turn) (idle : Idle world) (are : T
 
   ends-same : after step world (eventsOf turns) ≡ after step world (eventsOf others)
   ends-same =
-      let one = turns-pass turns world idle are in
-      let other = turns-pass others world idle are-too in
-      same-world _ _ (one .idle .four) (other .idle .four) (one .count ∙ sym (other .count)) (one .idle .enters) (other .idle .enters)
+      let one = turns-pass turns world ready are in
+      let other = turns-pass others world ready are-too in
+      same-world _ _ (one .ready .whole .four) (other .ready .whole .four) (one .count ∙ sym (other .count)) (one .ready .enters) (other .ready .enters)
       (λ i past. one .rest i (omega (arith, past, one .count)) ∙ sym (other .rest i (omega (arith, past, one .count))))
       (λ k below.
       let there : k < world .0 .count = omega (arith, below, one .count) in
-      ends-alone turns world idle are k there
+      ends-alone turns world ready are k there
       ∙ ap (λ (own : List Turn). after step (alone k world) (eventsOf own)) (own-same k)
-      ∙ sym (ends-alone others world idle are-too k there))
+      ∙ sym (ends-alone others world ready are-too k there))
 
   answers-same : (k j i : ℕ) → isExcepted (turnOf k turns j) i ≡ false
       → answerOf k turns (answersTo step world (eventsOf turns)) j i ≡ answerOf k others (answersTo step world (eventsOf others)) j i
@@ -63,9 +63,9 @@ module _ (world : World) (turns others : List Turn) (idle : Idle world) (are : T
     where
       go : Dec (k < world .0 .count) → answerOf k turns (answersTo step world (eventsOf turns)) j i ≡ answerOf k others (answersTo step world (eventsOf others)) j i
       go (yes p) =
-          by-itself world turns idle are k p .answers j i usual
+          by-itself world turns ready are k p .answers j i usual
           ∙ ap (λ (own : List Turn). answerOf 0 own (answersTo step (alone k world) (eventsOf own)) j i) (own-same k)
-          ∙ sym (by-itself world others idle are-too k p .answers j i (ap (λ (own : List (List ℕ)). isExcepted (getD own j []) i) (sym (shuffle k)) ∙ usual))
+          ∙ sym (by-itself world others ready are-too k p .answers j i (ap (λ (own : List (List ℕ)). isExcepted (getD own j []) i) (sym (shuffle k)) ∙ usual))
       go (no p) =
           rw (
             no-answers (world .0 .count) (placesOf (world .0 .chips)) k turns (answersTo step world (eventsOf turns)) are (omega arith),
@@ -75,8 +75,10 @@ module _ (world : World) (turns others : List Turn) (idle : Idle world) (are : T
 pub undisturbed : Undisturbed ours
 undisturbed =
     record {
-      shuffled = λ world turns others idle are shuffle.
-          record { ends = ends-same world turns others idle are shuffle; answers = answers-same world turns others idle are shuffle };
+      shuffled = λ world turns others ready are shuffle.
+          record { ends = ends-same world turns others ready are shuffle; answers = answers-same world turns others ready are shuffle };
       by-itself = by-itself;
-      excepted = λ world turns idle are. f8-acknowledged (eventsOf turns) world (entering idle);
+      excepted = λ world turns ready are k j i is.
+          answer-at k turns (answersTo step world (eventsOf turns)) j i (excepted-inside (turnOf k turns j) i is)
+          ∙ f8-acknowledged (eventsOf turns) world (entering ready) (beganAt k turns j + i) (excepted-at k turns j i is);
     }

@@ -3,5 +3,5 @@ pub mod Turn
 pub mod Shuffle
 pub mod Alone
 pub mod Playing
-pub mod Faults
+pub mod Benches
 pub mod Undisturbed

@@ -1,5 +1,5 @@
 -- Lists of turns, their shuffles, and the j-th turn of a chip in one list and in another.
-use Prim.Native.Nat.{ℕ, zero, suc}
+use Prim.Native.Nat.{ℕ, zero, suc, _+_}
 use mathlib.Core.Bool.{Bool, true, false, cond, _&&_}
 use mathlib.Core.List.{List, [], _∷_, _++_}
 use mathlib.Core.Path.{_≡_}
@@ -29,6 +29,12 @@ Shuffle turns others = (k : ℕ) → turnsOf k turns ≡ turnsOf k others
 -- the j-th turn of chip k
 abbrev pub turnOf : ℕ → List Turn → ℕ → List ℕ
 turnOf k turns j = getD (turnsOf k turns) j []
+
+-- how many events stand before it
+unfoldable pub beganAt : ℕ → List Turn → ℕ → ℕ
+beganAt k [] j = 0
+beganAt k (turn ∷ rest) zero = cond (eqb (turn .chip) k) 0 (length (turn .events) + beganAt k rest zero)
+beganAt k (turn ∷ rest) (suc j) = length (turn .events) + beganAt k rest (cond (eqb (turn .chip) k) j (suc j))
 
 -- the answers to the turns of chip k, from those to the whole list
 unfoldable pub answersOf : ℕ → List Turn → List ℕ → List (List ℕ)

@@ -1,5 +1,6 @@
 -- A turn of chip k: a single event 05, 06 or 07 naming k, or a run that begins with 01, ends with its only 02, and between holds only 01,
--- 03, 04 and events 05 to 07 naming k, each with a value allowed for its kind (paper, "Whose turn it is").
+-- 03, 04 and events 05 to 07 naming k, each with a value allowed for its kind. Each Start in it is followed at once by a host byte: a 1010 or
+-- 1011 address byte of k, 08h to 0Fh, F9h, or F8h followed at once by a 1010 address byte of k (paper, "Whose turn it is").
 use Prim.Native.Nat.{ℕ, _/_, _%_}
 use mathlib.Core.Bool.{Bool, false, cond, _&&_, _||_}
 use mathlib.Core.List.{List, [], _∷_}

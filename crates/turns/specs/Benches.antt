@@ -44,7 +44,8 @@ shared world word made =
 abbrev pub oneCounter : Bench → Bench
 oneCounter = with shared
 
--- the F8h acknowledge treated as one chip's own: it is that of the first chip alone
+-- the F8h acknowledge treated as one chip's own: every byte F8h gets the answer of the first chip alone (which chip is to be chosen only
+-- the next byte says)
 abbrev pub forFirst : Bench → Fault
 forFirst bench world word made =
     cond (isF8 word) (record { bus = made .0 .bus; answer = stepped bench (alone 0 world) word .0 .answer }, made .1, made .2) made

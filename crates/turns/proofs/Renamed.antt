@@ -21,9 +21,6 @@ use Rattle.turns.proofs.Grammar.{Cases, turn-by-cases}
 use Rattle.turns.proofs.Lists.{labelled, of-each-chip}
 
 -- an event that names no chip keeps its name
-start-renamed : (word : ℕ) → isStart word ≡ true → renamed word ≡ word
-start-renamed word is = let same : word ≡ wordOf 1 0 = eqb-true _ _ is in rw same
-
 stop-renamed : (word : ℕ) → isStop word ≡ true → renamed word ≡ word
 stop-renamed word is = let same : word ≡ wordOf 2 0 = eqb-true _ _ is in rw same
 

@@ -10,12 +10,13 @@ use Rattle.base.proofs.test.Laws.{either}
 use Rattle.load.specs.Load as load
 use Rattle.wellformed.specs.Wellformed as one-chip
 use Rattle.board.specs.Board.{boardVerdict}
+use Rattle.lineup.specs.Chips.{controlAt}
 use Rattle.lineup.specs.Wellformed.{wellFormed}
 use Rattle.bus.specs.Step.{step}
 use Rattle.turns.specs.Turn.{Turn, isF8}
-use Rattle.turns.specs.Shuffle.{turnsOf, answerOf, isExcepted, Shuffle}
+use Rattle.turns.specs.Shuffle.{eventsOf, turnsOf, answerOf, isExcepted, Shuffle}
 use Rattle.turns.specs.Alone.{World, alone, renamed, ownTurns}
-use Rattle.turns.specs.Playing.{Bench, answersTo, ending, ledTo, Made}
+use Rattle.turns.specs.Playing.{after, Bench, answersTo, ending, ledTo, Made}
 use Rattle.turns.specs.Benches.{shared, oneCounter, forFirst, ownF8}
 use Rattle.turns.specs.Undisturbed.{Ready, Turns, acknowledge, Undisturbed}
 use Rattle.turns.proofs.Entering.{Entering, entering}
@@ -42,6 +43,25 @@ one-counter-disturbs undisturbed =
     let same = undisturbed .shuffled (pair free free) one other ready refl (swapped _ _) .answers 0 0 2 refl in
     let answer = computed-answer shared shared-keeps (pair free free) (entering ready) 0 in
     eqb-false _ _ refl (sym (answer one 0 2) ∙ same ∙ answer other 0 2)
+
+-- two chips are sent a word address each, 005h and 007h
+abbrev firstAddressed : Turn
+firstAddressed = of 0 (0x0100 ∷ 0x03A0 ∷ 0x0300 ∷ 0x0305 ∷ 0x0200 ∷ [])
+
+abbrev secondAddressed : Turn
+secondAddressed = of 1 (0x0100 ∷ 0x03A2 ∷ 0x0300 ∷ 0x0307 ∷ 0x0200 ∷ [])
+
+-- nor do all ends agree: the first chip's counter is then the one that came last
+pub one-counter-ends-apart : ((world : World) (turns others : List Turn) → Ready world → Turns world turns → Shuffle turns others
+    → after (oneCounter step) world (eventsOf turns) ≡ after (oneCounter step) world (eventsOf others)) → ⊥
+unfolding eventByEvent
+one-counter-ends-apart agree =
+    let ready = pairs-are-ready .0 in
+    let one : List Turn = firstAddressed ∷ secondAddressed ∷ [] in
+    let other : List Turn = secondAddressed ∷ firstAddressed ∷ [] in
+    let ends = computed shared shared-keeps (pair free free) (entering ready) in
+    let same = sym (ends (eventsOf one) .0) ∙ agree (pair free free) one other ready refl (swapped _ _) ∙ ends (eventsOf other) .0 in
+    eqb-false _ _ refl (ap (λ (world : World). controlAt (world .0 .chips) 0 .array) same)
 
 -- F8h in a turn of the first chip
 abbrev calls : Turn

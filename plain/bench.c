@@ -199,12 +199,14 @@ static bool take_address(struct chip *chip, byte b)
 }
 
 /* [Device ID] The byte after F8h: the chip whose 1010 address it is, is chosen, and takes nothing
- * before the next Start. */
+ * before the next Start. It is no address byte, so it drops no choice (D40). */
 static bool take_id_address(struct chip *chip, byte b)
 {
-    chip->chosen = is_named(chip, CODE_ARRAY, b);
+    bool named = is_named(chip, CODE_ARRAY, b);
+
+    chip->chosen |= named;
     chip->phase = STANDBY;
-    return chip->chosen;
+    return named;
 }
 
 /* [Write] The counter is set on the second byte. */

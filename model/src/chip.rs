@@ -202,11 +202,13 @@ impl Chip {
         }
     }
 
-    /// The byte after F8h, read bit ignored: the chip is chosen or not, and takes nothing before the next Start.
+    /// The byte after F8h, read bit ignored: the chip is chosen where it is named, and takes nothing before the next Start. Where it
+    /// is not named, a choice that it already has stays: this is no address byte, and only those drop one (D40).
     fn take_selection(&mut self, byte: u8) -> bool {
-        self.chosen = self.named_by(byte, ARRAY_TYPE).is_some();
+        let named = self.named_by(byte, ARRAY_TYPE).is_some();
+        self.chosen |= named;
         self.phase = Phase::Standby;
-        self.chosen
+        named
     }
 
     /// Paper, Write: the counter is set on the second word-address byte.
@@ -371,5 +373,31 @@ fn store_in_page(memory: &mut [u8], part: &Part, first: usize, bytes: &[u8]) {
     for &byte in bytes {
         memory[address] = byte;
         address = part.next_in_page(address);
+    }
+}
+
+#[cfg(test)]
+mod tests {
+    use super::*;
+    use crate::part::CS32;
+
+    /// Only a state that is handed in has a chosen chip that awaits the byte after F8h: no transcript leads there (D40).
+    #[test]
+    fn a_choice_outlives_a_byte_after_f8_that_is_not_its_own() {
+        let handed_in = || {
+            let mut chip = Chip::fresh(&CS32, 3, 0);
+            chip.chosen = true;
+            chip.phase = Phase::Takes(Takes::Selection);
+            chip
+        };
+        for (byte, acknowledged) in [(0xA6, true), (0xA7, true), (0xA4, false), (0xB6, false), (ID_SELECT, false), (ID_READ, false)] {
+            let mut chip = handed_in();
+            assert_eq!(chip.take(byte), acknowledged, "{byte:02X}");
+            assert_eq!((chip.chosen, chip.phase), (true, Phase::Standby), "{byte:02X}");
+        }
+        let mut chip = handed_in();
+        chip.start();
+        chip.take(0xA4);
+        assert!(!chip.chosen, "an address byte drops the choice");
     }
 }

@@ -1,14 +1,16 @@
 -- The paper's edges marked (P), computed from the definitions: one list, one theorem ("On both sides of each edge").
 use Prim.Native.Nat.{ℕ}
-use mathlib.Core.Bool.{false}
+use mathlib.Core.Bool.{false, cond}
 use mathlib.Core.List.{List, [], _∷_, _++_, map}
 use mathlib.Core.Path.{_≡_, refl}
 use lib.ListN.{replicate, set, getD}
 use Rattle.base.specs.Fold.{upTo}
+use Rattle.base.specs.Word.{wordOf}
 use Rattle.parts.specs.Part.{geometry24CSM01, geometry24CS32, geometryOf}
 use Rattle.regions.specs.Zone.{zoneOf}
 use Rattle.regions.specs.Counter.{counterIn}
 use Rattle.load.specs.Load.{holds, storePage}
+use Rattle.control.specs.Phase.{isBusy}
 use Rattle.control.specs.Said.{replyOf}
 use Rattle.addressing.specs.Address.{callOf, takeAddress, takeChoice}
 use Rattle.taking.specs.Taking.{take, loaded}
@@ -16,7 +18,7 @@ use Rattle.sending.specs.Sending.{read}
 use Rattle.cycle.specs.Stop.{stop}
 use Rattle.chip.specs.declared.Stepped.{Stepped}
 use Rattle.chip.specs.declared.event.Event.{Event}
-use Rattle.chip.specs.declared.event.Event.the-variants.{Start, Stop, Sent, Read}
+use Rattle.chip.specs.declared.event.Event.the-variants.{Start, Stop, Sent, Read, CycleOver}
 use Rattle.chip.specs.Chip.{fresh, quiet, step}
 use Rattle.refusal.specs.Refusal.{statusOf}
 use Rattle.board.specs.declared.Place.{Place}
@@ -31,9 +33,9 @@ m01 = 1
 abbrev cs32 : ℕ
 cs32 = 2
 
--- a 24CS32 at strap 0 that holds only 5Ah at 000h, and FFh elsewhere, after some events
+-- a 24CS32 at strap 0 that holds 5Ah at 000h, C3h at FFFh, and FFh elsewhere, after some events
 abbrev after : List Event → Stepped × List ℕ × List ℕ
-after events = played events (quiet (fresh cs32 0), set (replicate 4096 0xFF) 0 0x5A, replicate 64 0xFF)
+after events = played events (quiet (fresh cs32 0), set (set (replicate 4096 0xFF) 0x000 0x5A) 0xFFF 0xC3, replicate 64 0xFF)
 
 -- what it holds at an address of its array
 abbrev holdsAt : ℕ → List Event → ℕ
@@ -53,10 +55,24 @@ readAtEnd more =
     replyOf 0xFF
     (after ((Start ∷ Sent 0xA0 ∷ Sent 0x0F ∷ Sent 0xFF ∷ Start ∷ Sent 0xA1 ∷ []) ++ replicate more (Read false)) .0 .said)
 
--- LOCK 1 and EWPM 1, with some confirmation
-abbrev configuration : ℕ → ℕ
-configuration confirmation =
-    after (Start ∷ Sent 0xB0 ∷ Sent 0x88 ∷ Sent 0x00 ∷ Sent 0x03 ∷ Sent 0xFF ∷ Sent confirmation ∷ Stop ∷ []) .0 .chip .control .config0
+-- both configuration bytes written, with some confirmation
+abbrev configures : ℕ → ℕ → ℕ → List Event
+configures byte0 byte1 confirmation =
+    Start ∷ Sent 0xB0 ∷ Sent 0x88 ∷ Sent 0x00 ∷ Sent byte0 ∷ Sent byte1 ∷ Sent confirmation ∷ Stop ∷ []
+
+-- a register that holds 02h 0Fh is sent 03h FFh, so LOCK 1, with some confirmation; then some events
+abbrev locking : ℕ → List Event → Stepped × List ℕ × List ℕ
+locking confirmation more = after (configures 0x02 0x0F 0x66 ++ ((CycleOver ∷ []) ++ (configures 0x03 0xFF confirmation ++ more)))
+
+-- the whole register then, byte 0 first; whether a cycle has started; the reply to the next address byte
+abbrev registerAfter : ℕ → ℕ
+registerAfter confirmation = let c = locking confirmation [] .0 .chip .control in wordOf (c .config0) (c .config1)
+
+abbrev cycleAfter : ℕ → ℕ
+cycleAfter confirmation = cond (isBusy (locking confirmation [] .0 .chip .control .phase)) 1 0
+
+abbrev nextAddress : ℕ → ℕ
+nextAddress confirmation = replyOf 0x00 (locking confirmation (Start ∷ Sent 0xA0 ∷ []) .0 .said)
 
 -- the array counter of a 24CSM01 at strap 2 after an address byte and the word address 0000h
 abbrev counterBy : ℕ → ℕ
@@ -91,7 +107,7 @@ edges =
     ∷ (holdsAt 0x000 (written 0x00 0x00 (rising 33)), 0x20)
     ∷ (holdsAt 0x001 (written 0x00 0x00 (rising 33)), 0x01)
     -- read at FFFh, then again: second byte is from 000h
-    ∷ (readAtEnd 1, 0xFF)
+    ∷ (readAtEnd 1, 0xC3)
     ∷ (readAtEnd 2, 0x5A)
     -- word address F000h on a 24CS32 is 000h
     ∷ (counterIn (geometry24CS32 .array) false 0xF0 0x00, 0)
@@ -101,9 +117,13 @@ edges =
     -- 24CSM01 strap 1 with 24CS32 strap 3: refusal 4; with strap 4: accepted
     ∷ (setUpOf (place m01 1) (place cs32 3), 4)
     ∷ (setUpOf (place m01 1) (place cs32 4), 0)
-    -- LOCK 1 confirmed by 66h: unchanged
-    ∷ (configuration 0x66, 0)
-    ∷ (configuration 0x99, 3)
+    -- LOCK 1 confirmed by 66h: unchanged, no cycle, and the next address byte is acknowledged; by 99h it is otherwise
+    ∷ (registerAfter 0x66, 0x020F)
+    ∷ (cycleAfter 0x66, 0)
+    ∷ (nextAddress 0x66, 0x01)
+    ∷ (registerAfter 0x99, 0x03FF)
+    ∷ (cycleAfter 0x99, 1)
+    ∷ (nextAddress 0x99, 0x00)
     -- three 24CS32 need 12,288 and 192 bytes (paper, "The two memories")
     ∷ (arrayStart three 3, 12288)
     ∷ (securityStart three 3, 192)

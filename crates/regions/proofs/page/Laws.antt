@@ -55,12 +55,14 @@ module _ (g : Geometry) (sound : Sound g) (at : ℕ) where
   pub next-inside : (size : ℕ) → size / g .page * g .page ≡ size → at < size → nextInPage g at < size
   next-inside size whole inside = omega (arith, page-inside size whole inside, next-place-below)
 
+  -- an address is in the page that it is counted from
+  pub page-of-place : (place : ℕ) → place < g .page → pageOf g (pageOf g at * g .page + place) ≡ pageOf g at
+  page-of-place place below =
+      mul-add-div-right (sound .page-some) (pageOf g at) place ∙ ap (λ (n : ℕ). pageOf g at + n) (div-eq-of-lt below) ∙ omega arith
+
   -- the next place stays in the page, and is the one after
   pub next-stays : pageOf g (nextInPage g at) ≡ pageOf g at
-  next-stays =
-      mul-add-div-right (sound .page-some) (pageOf g at) (nextIn (g .page) (placeOf g at))
-      ∙ ap (λ (n : ℕ). pageOf g at + n) (div-eq-of-lt next-place-below)
-      ∙ omega arith
+  next-stays = page-of-place (nextIn (g .page) (placeOf g at)) next-place-below
 
   pub next-place : placeOf g (nextInPage g at) ≡ nextIn (g .page) (placeOf g at)
   next-place =

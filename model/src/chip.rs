@@ -390,7 +390,9 @@ mod tests {
             chip.phase = Phase::Takes(Takes::Selection);
             chip
         };
-        for (byte, acknowledged) in [(0xA6, true), (0xA7, true), (0xA4, false), (0xB6, false), (ID_SELECT, false), (ID_READ, false)] {
+        for (byte, acknowledged) in
+            [(0xA6, true), (0xA7, true), (0xA4, false), (0xB6, false), (ID_SELECT, false), (ID_READ, false)]
+        {
             let mut chip = handed_in();
             assert_eq!(chip.take(byte), acknowledged, "{byte:02X}");
             assert_eq!((chip.chosen, chip.phase), (true, Phase::Standby), "{byte:02X}");

@@ -1,4 +1,5 @@
 pub mod Fold
+pub mod Every
 pub mod Least
 pub mod Store
 pub mod Bit

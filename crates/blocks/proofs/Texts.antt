@@ -5,14 +5,15 @@ use native.Mathlib.Decide.{decLe}
 use native.Mathlib.Nat.{zero-add, add-zero}
 use native.Mathlib.Omega.{arith}
 use mathlib.Core.Bool.{Bool, true, false, _&&_, false≢true}
-use mathlib.Core.List.{List, _++_}
+use mathlib.Core.List.{List, [], _∷_, _++_}
+use mathlib.Core.Logic.{_↔_}
 use mathlib.Core.Path.{_≡_, _∙_, refl, sym, ap}
 use lib.Dec.{leb, ltb}
 use lib.ListN.{length, getD, drop, length-append, length-drop, List·getD-append}
-use lib.Seq.{getD-drop}
+use lib.Seq.{drop-append-le, getD-drop}
 use borrow.Author.Tests.{le-leb, leb-true, lt-ltb, ltb-true}
 use Rattle.base.specs.Fold.{allBelow}
-use Rattle.transcript.specs.Digit.{isDigit}
+use Rattle.transcript.specs.Digit.{digitOf, isDigit}
 use Rattle.transcript.specs.Line.{isLine, eventAt}
 use Rattle.conversation.specs.Talk.{unfinished}
 use Rattle.base.proofs.Fold.{and-left, and-right, and-both, all-each, all-at}
@@ -24,7 +25,7 @@ both-ways true false there back = sym (there refl)
 both-ways false true there back = back refl
 both-ways false false there back = refl
 
-none-of : (a : Bool) → (a ≡ true → ⊥) → a ≡ false
+pub none-of : (a : Bool) → (a ≡ true → ⊥) → a ≡ false
 none-of true never = absurd (never refl)
 none-of false never = refl
 
@@ -144,3 +145,31 @@ module _ (text : List ℕ) (at : ℕ) where
       let left : length (drop at text) - 0 ≡ length text - at = omega (arith, length-drop at text) in
       ap (λ (n : ℕ). ltb n 5 && allBelow (λ (i : ℕ). isDigit (getD (drop at text) (0 + i) 0)) n) left
       ∙ ap (λ (test : ℕ → Bool). ltb (length text - at) 5 && allBelow test (length text - at)) (λ k i. isDigit (each-from i k))
+
+-- ---- what may still become a line is what some text behind it makes one: zeros up to four digits, and LF
+digits-become : (part : List ℕ) → unfinished part 0 ≡ true → (more : List ℕ) × (isLine (part ++ more) 0 ≡ true)
+unfolding digitOf
+digits-become [] may = (48 ∷ 48 ∷ 48 ∷ 48 ∷ 10 ∷ [], refl)
+digits-become (a ∷ []) may =
+    let digit = unfinished-digits (a ∷ []) may in
+    (48 ∷ 48 ∷ 48 ∷ 10 ∷ [], rw (digit 0 (omega arith)) refl)
+digits-become (a ∷ b ∷ []) may =
+    let digit = unfinished-digits (a ∷ b ∷ []) may in
+    (48 ∷ 48 ∷ 10 ∷ [], rw (digit 0 (omega arith), digit 1 (omega arith)) refl)
+digits-become (a ∷ b ∷ c ∷ []) may =
+    let digit = unfinished-digits (a ∷ b ∷ c ∷ []) may in
+    (48 ∷ 10 ∷ [], rw (digit 0 (omega arith), digit 1 (omega arith), digit 2 (omega arith)) refl)
+digits-become (a ∷ b ∷ c ∷ d ∷ []) may =
+    let digit = unfinished-digits (a ∷ b ∷ c ∷ d ∷ []) may in
+    (10 ∷ [], rw (digit 0 (omega arith), digit 1 (omega arith), digit 2 (omega arith), digit 3 (omega arith)) refl)
+digits-become (a ∷ b ∷ c ∷ d ∷ e ∷ part) may = absurd (omega (arith, unfinished-short (a ∷ b ∷ c ∷ d ∷ e ∷ part) may))
+
+module _ (text : List ℕ) (at : ℕ) (inside : at ≤ length text) where
+  line-behind : (more : List ℕ) → isLine (drop at text ++ more) 0 ≡ isLine (text ++ more) at
+  line-behind more = rw (sym (drop-append-le at text more inside)) (line-from (text ++ more) at)
+
+  pub unfinished-exactly-when : isLine text at ≡ false → (unfinished text at ≡ true) ↔ ((more : List ℕ) × (isLine (text ++ more) at ≡ true))
+  unfinished-exactly-when none = (
+    λ may. let (more, line) = digits-become (drop at text) (unfinished-from text at ∙ may) in (more, sym (line-behind more) ∙ line),
+    λ (more, line). sym (unfinished-from text at) ∙ line-front (drop at text) more (line-from text at ∙ none) (line-behind more ∙ line),
+  )

@@ -156,7 +156,7 @@ module _ (text : List ℕ) (bus₀ : Bus) (array₀ security₀ buffer₀ : List
           rw (e, m) (omega (arith, q .same, written, fits, long))
 
   -- a place at which nothing more is answered is the last
-  settled : (n k : ℕ) → k ≤ n → hearLine text (after k) ≡ after k → after n ≡ after k
+  pub settled : (n k : ℕ) → k ≤ n → hearLine text (after k) ≡ after k → after n ≡ after k
   unfolding upTo
   settled zero k below same =
       let all : zero ≡ k = omega arith in

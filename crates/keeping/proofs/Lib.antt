@@ -10,3 +10,4 @@ pub mod Lengths
 pub mod Readonly
 pub mod Registers
 pub mod Beside
+pub mod Bytes

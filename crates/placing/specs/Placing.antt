@@ -1,7 +1,8 @@
 -- A word that names a place on a board: the part's digit, a colon, the strap's digit. Digits are the transcript's.
 use Prim.Native.Nat.{ℕ}
-use mathlib.Core.Bool.{Bool, cond, _&&_}
+use mathlib.Core.Bool.{Bool, true, cond, _&&_}
 use mathlib.Core.List.{List, [], _∷_}
+use mathlib.Core.Path.{_≡_}
 use lib.Dec.{eqb}
 use lib.ListN.{length, getD}
 use Rattle.board.specs.declared.Place.{Place}
@@ -27,3 +28,12 @@ placeNamed word =
 abbrev pub placesIn : Placing → List Place
 placesIn (Named place) = place ∷ []
 placesIn Unknown = []
+
+-- a word of the form PART:STRAP, a digit each, and the place of those digits
+pub record Names (word : List ℕ) (place : Place) : Type 0 where
+  pub part : ℕ
+  pub strap : ℕ
+  pub form : word ≡ part ∷ colon ∷ strap ∷ []
+  pub first : isDigit part ≡ true
+  pub second : isDigit strap ≡ true
+  pub digits : place ≡ placeOf part strap

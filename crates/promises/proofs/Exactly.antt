@@ -38,7 +38,7 @@ module _ (bus : Bus) (array security : List ℕ) (word : ℕ) where
   abbrev atStep : Checks
   atStep = stepChecks bus array security word
 
-  step-says : statusIn (step bus array security word .0 .answer) ≡ statusOf (firstOf atStep)
+  pub step-says : statusIn (step bus array security word .0 .answer) ≡ statusOf (firstOf atStep)
   unfolding step played
   step-says = go (firstOf atStep)
     where

@@ -34,6 +34,7 @@ use Rattle.lineup.specs.Wellformed.{wellFormed}
 use Rattle.line.specs.declared.Played.{Played}
 use Rattle.line.specs.Line.{play}
 use Rattle.bus.specs.declared.Bus.{Bus}
+use Rattle.bus.proofs.Typed.{OfItsType, has-four}
 use Rattle.bus.specs.Step.{entryChecks, eventChecks, stepBy, played, event}
 use Rattle.promises.specs.Own.{own}
 use Rattle.promises.proofs.Chips.{each-chip-takes-its-own, the-rest-stays, stores-keep-their-length, chips-stay-four}
@@ -131,19 +132,19 @@ module _ (order : Order) (count : ℕ) (chips : List Chip) (array security : Lis
         let (array-long, security-long) = stores-keep-their-length order count chips array security four array-fits security-fits in
         (of-formed count after (formed-kept fair), rw places-kept (array-long ∙ array-fits), rw places-kept (security-long ∙ security-fits))
 
-pub well-formed-kept : (word count : ℕ) (chips : List Chip) (array security : List ℕ) → length chips ≡ 4
-    → length array ≡ arrayStart (placesOf chips) (placed count)
-    → length security ≡ securityStart (placesOf chips) (placed count)
-    → wellFormed count chips ≡ true
-    → wellFormed count (play (orderOf word) count chips array security .0 .chips) ≡ true
-well-formed-kept word count chips array security four array-fits security-fits formed =
-    ready-kept (orderOf word) count chips array security four array-fits security-fits (formed-of count chips formed) (order-fair word) .0
+pub well-formed-kept : (bus : Bus) (array security : List ℕ) (word : ℕ) → OfItsType bus
+    → length array ≡ arrayStart (placesOf (bus .chips)) (placed (bus .count))
+    → length security ≡ securityStart (placesOf (bus .chips)) (placed (bus .count))
+    → wellFormed (bus .count) (bus .chips) ≡ true
+    → wellFormed (bus .count) (play (orderOf word) (bus .count) (bus .chips) array security .0 .chips) ≡ true
+well-formed-kept bus array security word typed array-fits security-fits formed =
+    ready-kept (orderOf word) (bus .count) (bus .chips) array security (has-four typed) array-fits security-fits (formed-of (bus .count) (bus .chips) formed) (order-fair word) .0
 
 -- an event that is played keeps all of it, and one that is refused leaves everything
-pub entry-kept : (bus : Bus) (array security : List ℕ) (word : ℕ) → length (bus .chips) ≡ 4 → firstOf (entryChecks bus array security) ≡ Passed
+pub entry-kept-by-four : (bus : Bus) (array security : List ℕ) (word : ℕ) → length (bus .chips) ≡ 4 → firstOf (entryChecks bus array security) ≡ Passed
     → let next = event bus array security word in (firstOf (entryChecks (next .0 .bus) (next .1) (next .2)) ≡ Passed) × (length (next .0 .bus .chips) ≡ 4)
 unfolding event played
-entry-kept bus array security word four passed = go (firstOf (eventChecks bus word))
+entry-kept-by-four bus array security word four passed = go (firstOf (eventChecks bus word))
   where
     go : (verdict : Verdict) → let next = stepBy verdict bus array security word in (firstOf (entryChecks (next .0 .bus) (next .1) (next .2)) ≡ Passed) × (length (next .0 .bus .chips) ≡ 4)
     go Passed =
@@ -152,3 +153,7 @@ entry-kept bus array security word four passed = go (firstOf (eventChecks bus wo
         let ready = ready-kept (orderOf word) (bus .count) (bus .chips) array security four array-fits security-fits (formed-of _ _ formed) (order-fair word) in
         (of-ready (next .0 .bus) (next .1) (next .2) ready, chips-stay-four (orderOf word) (bus .count) (bus .chips) array security four array-fits security-fits)
     go (Refused refusal) = (passed, four)
+
+pub entry-kept : (bus : Bus) (array security : List ℕ) (word : ℕ) → OfItsType bus → firstOf (entryChecks bus array security) ≡ Passed
+    → let next = event bus array security word in firstOf (entryChecks (next .0 .bus) (next .1) (next .2)) ≡ Passed
+entry-kept bus array security word typed passed = entry-kept-by-four bus array security word (has-four typed) passed .0

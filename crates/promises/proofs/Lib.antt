@@ -6,7 +6,12 @@ pub mod Kept
 pub mod Setup
 pub mod Refused
 pub mod Exactly
+pub mod Playing
 pub mod Runs
 mod Sent
 pub mod Replies
 pub mod Odd
+pub mod Bytes
+pub mod Answers
+pub mod Calls
+pub mod Versions

@@ -1,5 +1,6 @@
 -- Well formed allows states that no list of events leads to from set-up. That events keep these too is no empty promise: here are
--- four of them, each well formed by the definition, computed.
+-- four of them, each well formed by the definition, computed. And what becomes of the third, which no source speaks of (D40).
+use Prim.Native.Nat.{ℕ}
 use mathlib.Core.Bool.{true}
 use mathlib.Core.List.{List, [], _∷_, map}
 use mathlib.Core.Path.{_≡_, refl}
@@ -10,6 +11,9 @@ use Rattle.control.specs.declared.Control.{Control}
 use Rattle.control.specs.declared.phase.Phase.the-variants.{AwaitsAddress, AwaitsChoice, TakesData}
 use Rattle.control.specs.declared.phase.Data.the-variants.{ToArray, ToLock}
 use Rattle.control.specs.Control.{fresh, inPhase, choosing, lockedNow}
+use Rattle.addressing.specs.declared.Call.{Call}
+use Rattle.addressing.specs.declared.Call.the-variants.{ReadArray, WriteArray, ReadRegister, WriteRegister, HostF8, HostF9, Nobody}
+use Rattle.addressing.specs.Address.{callOf, takeChosen, takeChoice}
 use Rattle.chip.specs.declared.Chip.{Chip}
 use Rattle.wellformed.specs.Wellformed as alone
 use Rattle.board.specs.Board.{boardVerdict}
@@ -42,3 +46,17 @@ odd =
 pub odd-ones-are-well-formed : map (wellFormed 2) odd ≡ true ∷ true ∷ true ∷ true ∷ []
 unfolding odd wellFormed boardVerdict placesOf upTo alone.wellFormed load.within geometryOf
 odd-ones-are-well-formed = refl
+
+-- the third: the byte after F8h is no address byte, so a choice outlives it, whatever byte it is
+pub choice-outlives-the-byte-after-f8 : (c : Control) (byte : ℕ) → c .chosen ≡ true → takeChoice c byte .control .chosen ≡ true
+unfolding takeChoice
+choice-outlives-the-byte-after-f8 c byte chosen = go (callOf (geometryOf (c .part)) (c .strap) byte)
+  where
+    go : (call : Call) → takeChosen call c .control .chosen ≡ true
+    go ReadArray = refl
+    go (WriteArray a16) = refl
+    go ReadRegister = chosen
+    go WriteRegister = chosen
+    go HostF8 = chosen
+    go HostF9 = chosen
+    go Nobody = chosen

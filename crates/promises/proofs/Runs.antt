@@ -3,11 +3,12 @@
 use Prim.Native.Nat.{ℕ, zero, suc, _<_, _≤_}
 use native.Mathlib.Omega.{arith}
 use mathlib.Core.Bool.{Bool, true, false, cond, false≢true}
-use mathlib.Core.List.{List}
+use mathlib.Core.List.{List, [], _∷_, _++_}
 use mathlib.Core.Path.{_≡_, _∙_, refl, sym, ap}
 use lib.Dec.{ltb}
-use lib.ListN.{length, getD, length-set}
-use lib.Seq.{getD-set-other}
+use lib.ListN.{length, getD, take, drop, length-set}
+use lib.Seq.{length-take-le, take-suc, take-length, drop-cons, set-at, append-snoc, getD-set-other}
+use borrow.Author.Tests.{le-ltb, ltb-false}
 use Rattle.base.specs.Fold.{upTo}
 use Rattle.base.proofs.Fold.{up-keeps, up-keeps-below}
 use Rattle.refusal.specs.declared.Verdict.{Verdict}
@@ -18,10 +19,13 @@ use Rattle.refusal.proofs.Checks.{passed-first}
 use Rattle.bus.specs.declared.Bus.{Bus}
 use Rattle.bus.specs.Step.{entryChecks, eventChecks, stepBy, event, step}
 use Rattle.bus.specs.Run.{runChecks, Tape, noted, eventAt, runUpTo, runBy, run}
-use Rattle.promises.proofs.Kept.{entry-kept}
+use Rattle.bus.proofs.Typed.{OfItsType, has-four}
+use Rattle.promises.specs.Playing.{World, after, answersTo}
+use Rattle.promises.proofs.Kept.{entry-kept-by-four}
+use Rattle.promises.proofs.Playing.{after-append, answers-append, answers-length}
 
 -- event i as a step by itself
-abbrev pub stepAt : List ℕ → ℕ → Tape → Tape
+abbrev stepAt : List ℕ → ℕ → Tape → Tape
 stepAt events i tape = noted i (tape .3) (step (tape .0) (tape .1) (tape .2) (getD events i 0))
 
 -- where the checks at entry pass, only those of the event are left
@@ -36,7 +40,7 @@ abbrev Sound : Tape → Type 0
 Sound tape = (firstOf (entryChecks (tape .0) (tape .1) (tape .2)) ≡ Passed) × (length (tape .0 .chips) ≡ 4)
 
 sound-kept : (events : List ℕ) (i : ℕ) (tape : Tape) → Sound tape → Sound (eventAt events i tape)
-sound-kept events i tape (passed, four) = entry-kept (tape .0) (tape .1) (tape .2) (getD events i 0) four passed
+sound-kept events i tape (passed, four) = entry-kept-by-four (tape .0) (tape .1) (tape .2) (getD events i 0) four passed
 
 events-are-steps : (events : List ℕ) (n : ℕ) (tape : Tape) → Sound tape → upTo (eventAt events) n tape ≡ upTo (stepAt events) n tape
 unfolding upTo
@@ -51,28 +55,73 @@ module _ (bus : Bus) (array security events answers : List ℕ) where
   abbrev start : Tape
   start = (bus, array, security, answers)
 
+  abbrev world : World
+  world = (bus, array, security)
+
   abbrev ran : Verdict × Tape
   ran = run bus array security events answers
 
-  -- a run that passes has passed the checks at entry, and has played each event
-  passed-run : ran .0 ≡ Passed → (firstOf (entryChecks bus array security) ≡ Passed) × (ran ≡ (Passed, upTo (eventAt events) (length events) start))
+  -- a run that passes has passed the checks at entry, has room for the answers, and has played each event
+  pub record PassedRun : Type 0 where
+    pub enters : firstOf (entryChecks bus array security) ≡ Passed
+    pub room : length events ≤ length answers
+    pub plays : ran ≡ (Passed, upTo (eventAt events) (length events) start)
+
+  pub passed-run : run bus array security events answers .0 ≡ Passed → PassedRun
   unfolding run runUpTo
-  passed-run = go (firstOf (runChecks bus array security events answers)) (entry (ltb (length answers) (length events)))
+  passed-run is =
+      let (enters, room) = entry (ltb (length answers) (length events)) refl (first (firstOf (runChecks bus array security events answers)) is) in
+      record { enters = enters; room = room; plays = go (firstOf (runChecks bus array security events answers)) is }
     where
-      entry : (short : Bool) → cond short (Refused ShortBuffer) (firstOf (entryChecks bus array security)) ≡ Passed → firstOf (entryChecks bus array security) ≡ Passed
-      entry true is = absurd (false≢true (ap isPassed is))
-      entry false is = is
+      entry : (short : Bool) → ltb (length answers) (length events) ≡ short → cond short (Refused ShortBuffer) (firstOf (entryChecks bus array security)) ≡ Passed
+          → (firstOf (entryChecks bus array security) ≡ Passed) × (length events ≤ length answers)
+      entry true said passed = absurd (false≢true (ap isPassed passed))
+      entry false said passed = (passed, ltb-false _ _ said)
 
-      go : (verdict : Verdict) → (verdict ≡ Passed → firstOf (entryChecks bus array security) ≡ Passed) → runBy verdict events start .0 ≡ Passed
-          → (firstOf (entryChecks bus array security) ≡ Passed) × (runBy verdict events start ≡ (Passed, upTo (eventAt events) (length events) start))
-      go Passed so is = (so refl, refl)
-      go (Refused refusal) so is = absurd (false≢true (ap isPassed is))
+      first : (verdict : Verdict) → runBy verdict events start .0 ≡ Passed → verdict ≡ Passed
+      first Passed passed = refl
+      first (Refused refusal) passed = absurd (false≢true (ap isPassed passed))
 
-  pub run-is-its-steps : length (bus .chips) ≡ 4 → run bus array security events answers .0 ≡ Passed
-      → run bus array security events answers ≡ (Passed, upTo (stepAt events) (length events) (bus, array, security, answers))
-  run-is-its-steps four is =
-      let (passed, played) = passed-run is in
-      played ∙ ap (λ (tape : Tape). (Passed, tape)) (events-are-steps events (length events) start (passed, four))
+      go : (verdict : Verdict) → runBy verdict events start .0 ≡ Passed → runBy verdict events start ≡ (Passed, upTo (eventAt events) (length events) start)
+      go Passed passed = refl
+      go (Refused refusal) passed = absurd (false≢true (ap isPassed passed))
+
+  pub run-passes : firstOf (entryChecks bus array security) ≡ Passed → length events ≤ length answers → run bus array security events answers .0 ≡ Passed
+  unfolding run
+  run-passes enters room = rw (le-ltb (length answers) (length events) room, enters)
+
+  -- where a list has led to, with its answers first in the buffer
+  abbrev tapeAfter : List ℕ → List ℕ → Tape
+  tapeAfter played rest = let now = after step world played in (now .0, now .1, now .2, answersTo step world played ++ rest)
+
+  steps-play : (n : ℕ) → n ≤ length events → n ≤ length answers → upTo (stepAt events) n start ≡ tapeAfter (take n events) (drop n answers)
+  unfolding upTo after answersTo
+  steps-play zero some fits = refl
+  steps-play (suc n) some fits =
+      let word : ℕ = getD events n 0 in
+      let played : List ℕ = take n events in
+      let long : length (answersTo step world played) ≡ n = answers-length step world played ∙ length-take-le n events (omega arith) in
+      rw (
+        steps-play n (omega arith) (omega arith),
+        take-suc events n 0 some,
+        drop-cons answers n 0 fits,
+        set-at (answersTo step world played) _ (drop (suc n) answers) _ n long,
+        after-append step world played (word ∷ []),
+        answers-append step world played (word ∷ []),
+        append-snoc,
+      )
+
+  -- its state and stores are where its steps lead to, each with all its checks, its answers are theirs, and the rest of the buffer stays
+  pub run-is-its-steps : OfItsType bus → run bus array security events answers .0 ≡ Passed
+      → let ends = after step (bus, array, security) events in
+      run bus array security events answers
+      ≡ (Passed, (ends .0, ends .1, ends .2, answersTo step (bus, array, security) events ++ drop (length events) answers))
+  run-is-its-steps typed is =
+      let passed = passed-run is in
+      passed .plays
+      ∙ ap (λ (tape : Tape). (Passed, tape))
+      (events-are-steps events (length events) start (passed .enters, has-four typed) ∙ steps-play (length events) (omega arith) (passed .room))
+      ∙ ap (λ (played : List ℕ). (Passed, tapeAfter played (drop (length events) answers))) (take-length events)
 
   -- refused or not
   run-keeps : (P : Tape → Type 0) → ((i : ℕ) (tape : Tape) → i < length events → P tape → P (eventAt events i tape)) → P start → P (ran .1)
@@ -93,7 +142,7 @@ module _ (bus : Bus) (array security events answers : List ℕ) where
   answers-keep-their-length =
       run-keeps (λ (tape : Tape). length (tape .3) ≡ length answers) (λ k tape below same. length-set (tape .3) k _ ∙ same) refl
 
-  pub a-run-keeps-the-bus-well-formed : length (bus .chips) ≡ 4 → run bus array security events answers .0 ≡ Passed
+  pub a-run-keeps-the-bus-well-formed : OfItsType bus → run bus array security events answers .0 ≡ Passed
       → let tape = run bus array security events answers .1 in firstOf (entryChecks (tape .0) (tape .1) (tape .2)) ≡ Passed
-  a-run-keeps-the-bus-well-formed four is =
-      run-keeps Sound (λ i tape below. sound-kept events i tape) (passed-run is .0, four) .0
+  a-run-keeps-the-bus-well-formed typed is =
+      run-keeps Sound (λ i tape below. sound-kept events i tape) (passed-run is .enters, has-four typed) .0

@@ -4,7 +4,6 @@ use Prim.Native.Nat.{ℕ, _<_, _≤_}
 use native.Mathlib.Omega.{arith}
 use mathlib.Core.List.{List}
 use mathlib.Core.Path.{_≡_, ap}
-use lib.ListN.{length}
 use Rattle.refusal.specs.declared.Verdict.{Verdict}
 use Rattle.refusal.specs.declared.Verdict.the-variants.{Passed}
 use Rattle.refusal.specs.declared.Answer.the-variants as answer
@@ -17,11 +16,12 @@ use Rattle.bus.specs.declared.Bus.{Bus}
 use Rattle.bus.specs.declared.Stepped.{Stepped}
 use Rattle.bus.specs.Step.{stepChecks, stepBy, played, step}
 use Rattle.bus.proofs.Entry.{Entered, entered}
+use Rattle.bus.proofs.Typed.{OfItsType, has-four}
 use Rattle.promises.specs.Own.{own, gathered}
 use Rattle.promises.proofs.Chips.{each-chip-takes-its-own, the-rest-stays, answer-is-gathered}
 use Rattle.promises.proofs.Formed.{none-holds}
 
-module _ (bus : Bus) (array security : List ℕ) (word : ℕ) (four : length (bus .chips) ≡ 4) (passes : firstOf (stepChecks bus array security word) ≡ Passed) where
+module _ (bus : Bus) (array security : List ℕ) (word : ℕ) (typed : OfItsType bus) (passes : firstOf (stepChecks bus array security word) ≡ Passed) where
   abbrev order : Order
   order = orderOf word
 
@@ -44,17 +44,17 @@ module _ (bus : Bus) (array security : List ℕ) (word : ℕ) (four : length (bu
   unfolding played
   step-is-each-chips-own i below =
       rw plays
-      (each-chip-takes-its-own order (bus .count) (bus .chips) array security four (enters .array-fits) (enters .security-fits) i (omega (arith, enters .all-placed)))
+      (each-chip-takes-its-own order (bus .count) (bus .chips) array security (has-four typed) (enters .array-fits) (enters .security-fits) i (omega (arith, enters .all-placed)))
 
   pub step-leaves-the-rest : (i : ℕ) → bus .count ≤ i → chipAt (after .0 .bus .chips) i ≡ chipAt (bus .chips) i
   unfolding played
   step-leaves-the-rest i past =
-      rw plays (the-rest-stays order (bus .count) (bus .chips) array security four (enters .array-fits) (enters .security-fits) i (omega (arith, enters .all-placed)))
+      rw plays (the-rest-stays order (bus .count) (bus .chips) array security (has-four typed) (enters .array-fits) (enters .security-fits) i (omega (arith, enters .all-placed)))
 
   pub step-answers-for-all : after .0 .answer ≡ answer.Done (lineReply (eventOf order) (gathered order (bus .count) (bus .chips) array security))
   unfolding played
   step-answers-for-all =
-      rw (plays, answer-is-gathered order (bus .count) (bus .chips) array security four (enters .array-fits) (enters .security-fits))
+      rw (plays, answer-is-gathered order (bus .count) (bus .chips) array security (has-four typed) (enters .array-fits) (enters .security-fits))
 
   pub step-keeps-the-count : after .0 .bus .count ≡ bus .count
   unfolding played

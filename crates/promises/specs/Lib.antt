@@ -1,1 +1,4 @@
 pub mod Own
+pub mod Playing
+pub mod Bytes
+pub mod Versions

@@ -11,6 +11,7 @@ use borrow.Author.Tests.{eqb-true, eq-eqb}
 use Rattle.base.proofs.Fold.{and-left, and-right}
 use Rattle.refusal.specs.declared.Refusal.{Refusal}
 use Rattle.refusal.specs.declared.Refusal.the-variants.{WrongCount, UnknownPart, StrapOutside, SharedAddress, WrongLength, UnknownKind, WrongValue, Clash, NotWellFormed, ShortBuffer}
+use Rattle.refusal.specs.declared.Verdict.{Verdict}
 use Rattle.refusal.specs.declared.Verdict.the-variants.{Passed, Refused}
 use Rattle.refusal.specs.Refusal.{numberOf, statusOf}
 use Rattle.refusal.specs.Checks.{firstOf, isPassed}
@@ -49,6 +50,11 @@ number-some WrongValue = omega arith
 number-some Clash = omega arith
 number-some NotWellFormed = omega arith
 number-some ShortBuffer = omega arith
+
+-- so a verdict whose status is 00 has passed
+pub status-passed : (verdict : Verdict) → statusOf verdict ≡ 0 → verdict ≡ Passed
+status-passed Passed is = refl
+status-passed (Refused refusal) is = absurd (omega (arith, number-some refusal, is))
 
 not-equal : (a b : ℕ) → not (eqb a b) ≡ true → a ≡ b → ⊥
 not-equal a b differ same = false≢true (rw (eq-eqb a b same) at differ)

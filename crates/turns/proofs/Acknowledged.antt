@@ -24,12 +24,12 @@ use Rattle.line.specs.Line.{clash, lineReply}
 use Rattle.bus.specs.Step.{played, step}
 use Rattle.bus.proofs.Entry.{Entered, entered}
 use Rattle.promises.specs.Own.{own, gathered}
+use Rattle.promises.specs.Playing.{World, Made, afterOne, answerTo, after, answersTo}
 use Rattle.promises.proofs.Chips.{answer-is-gathered}
 use Rattle.promises.proofs.Replies.{isAck, acknowledged-exactly-when, else-unanswered}
 use Rattle.turns.specs.Turn.{isStart, isF8}
 use Rattle.turns.specs.Shuffle.{isExcepted}
-use Rattle.turns.specs.Alone.{World, alone}
-use Rattle.turns.specs.Playing.{Made, afterOne, answerTo, after, answersTo}
+use Rattle.turns.specs.Alone.{alone}
 use Rattle.turns.specs.Undisturbed.{acknowledge}
 use Rattle.turns.proofs.Asked.{start-asks, f8-asks}
 use Rattle.turns.proofs.Resting.{isHeeding, start-heeds, heeding-sends-nothing, f8-said}

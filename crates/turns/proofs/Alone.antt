@@ -34,10 +34,11 @@ use Rattle.lineup.specs.Chips.{chipAt, placesOf}
 use Rattle.lineup.proofs.Laws.{place-at}
 use Rattle.line.specs.Line.{heard, play}
 use Rattle.bus.specs.Step.{entryChecks}
+use Rattle.bus.proofs.Typed.{Whole}
 use Rattle.bus.proofs.Entry.{Entered, entered}
+use Rattle.promises.specs.Playing.{World}
 use Rattle.promises.proofs.Formed.{Formed, formed-of, of-formed, of-ready}
-use Rattle.turns.specs.Alone.{World, onlyBus, alone}
-use Rattle.turns.specs.Undisturbed.{Whole}
+use Rattle.turns.specs.Alone.{onlyBus, alone}
 
 -- stores that are all its own
 abbrev pub Fits : Chip → List ℕ → List ℕ → Type 0

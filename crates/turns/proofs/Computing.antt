@@ -16,11 +16,10 @@ use Rattle.order.specs.Order.{orderOf}
 use Rattle.lineup.specs.Chips.{placesOf}
 use Rattle.line.specs.Line.{play}
 use Rattle.bus.specs.Step.{played, event, step}
+use Rattle.promises.specs.Playing.{World, Made, Bench, ledTo, after, answersTo}
 use Rattle.promises.proofs.Runs.{step-is-event}
 use Rattle.turns.specs.Turn.{Turn, isTurnAt, goesOn}
 use Rattle.turns.specs.Shuffle.{areTurns, eventsOf, turnsOf, beganAt, answersOf, answerOf}
-use Rattle.turns.specs.Alone.{World}
-use Rattle.turns.specs.Playing.{Bench, after, answersTo, ledTo, Made}
 use Rattle.turns.specs.Benches.{Fault, with}
 use Rattle.turns.proofs.Entering.{Entering, entering-kept}
 

@@ -21,11 +21,11 @@ use Rattle.lineup.specs.Chips.{chipAt, controlAt, placesOf}
 use Rattle.line.specs.Line.{clash}
 use Rattle.bus.specs.Step.{step}
 use Rattle.promises.specs.Own.{own}
+use Rattle.promises.specs.Playing.{World, ledTo, afterOne, answerTo, after, answersTo}
 use Rattle.turns.specs.Idle.{isAtRest}
 use Rattle.turns.specs.Turn.{isStart, isF8, Next, Anything, AddressByte, ChoiceByte}
 use Rattle.turns.specs.Shuffle.{isExcepted}
-use Rattle.turns.specs.Alone.{World, alone, renamed, onlyBus}
-use Rattle.turns.specs.Playing.{afterOne, answerTo, after, answersTo, ledTo}
+use Rattle.turns.specs.Alone.{alone, renamed, onlyBus}
 use Rattle.turns.proofs.Asked.{Asked}
 use Rattle.turns.proofs.Entering.{Entering, entering-kept}
 use Rattle.turns.proofs.Stepping.{step-clashes, count-kept, board-kept, rest-kept, each-moves}

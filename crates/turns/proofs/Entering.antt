@@ -2,6 +2,7 @@
 use Prim.Native.Nat.{ℕ, _<_}
 use native.Mathlib.Decide.{decLt}
 use native.Mathlib.Omega.{arith}
+use mathlib.Core.Bool.{true}
 use mathlib.Core.List.{List}
 use mathlib.Core.Path.{_≡_, _∙_, ap}
 use lib.ListN.{length}
@@ -18,20 +19,33 @@ use Rattle.lineup.specs.Chips.{chipAt, placesOf}
 use Rattle.line.specs.Line.{arrayShare, securityShare, play}
 use Rattle.bus.specs.Step.{entryChecks, eventChecks, played, stepBy, event, step}
 use Rattle.bus.proofs.Entry.{Entered, entered}
+use Rattle.bus.proofs.Typed.{OfItsType, Whole, whole}
+use Rattle.promises.specs.Playing.{World, afterOne}
 use Rattle.promises.proofs.Chips.{each-chip-takes-its-own, the-rest-stays}
-use Rattle.promises.proofs.Kept.{entry-kept}
+use Rattle.promises.proofs.Kept.{entry-kept-by-four}
 use Rattle.promises.proofs.Runs.{step-is-event}
-use Rattle.turns.specs.Alone.{World}
-use Rattle.turns.specs.Playing.{afterOne}
-use Rattle.turns.specs.Undisturbed.{Whole, Ready}
+use Rattle.turns.specs.Idle.{isIdle}
+use Rattle.turns.specs.Undisturbed.{Ready}
 use Rattle.turns.proofs.Resting.{marks-kept}
 
 pub record Entering (world : World) : Type 0 where
   pub whole : Whole (world .0)
   pub enters : firstOf (entryChecks (world .0) (world .1) (world .2)) ≡ Passed
 
-pub entering : {world : World} → Ready world → Entering world
-entering ready = record { whole = ready .whole; enters = ready .enters }
+-- and that is idle: a turn leads from such a bus to such a bus
+pub record Idling (world : World) : Type 0 where
+  pub whole : Whole (world .0)
+  pub enters : firstOf (entryChecks (world .0) (world .1) (world .2)) ≡ Passed
+  pub idle : isIdle (world .0) ≡ true
+
+pub idling : {world : World} → OfItsType (world .0) → Ready world → Idling world
+idling typed ready = record { whole = whole typed; enters = ready .enters; idle = ready .idle }
+
+pub ready-of : {world : World} → Idling world → Ready world
+ready-of idle = record { enters = idle .enters; idle = idle .idle }
+
+pub entering : {world : World} → Idling world → Entering world
+entering idle = record { whole = idle .whole; enters = idle .enters }
 
 -- every chip keeps its marks
 module _ (world : World) (e : Entering world) (order : Order) where
@@ -62,7 +76,7 @@ pub entering-kept : (world : World) (word : ℕ) → Entering world → Entering
 unfolding event played
 entering-kept world word e =
     rw (step-is-event (world .0) (world .1) (world .2) word (e .enters)) (
-    let (enters, four) = entry-kept (world .0) (world .1) (world .2) word (e .whole .four) (e .enters) in
+    let (enters, four) = entry-kept-by-four (world .0) (world .1) (world .2) word (e .whole .four) (e .enters) in
     record { whole = record { four = four; marks = marks (firstOf (eventChecks (world .0) word)) }; enters = enters }
     )
   where

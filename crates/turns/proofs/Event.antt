@@ -26,10 +26,10 @@ use Rattle.bus.specs.declared.Stepped.{Stepped}
 use Rattle.bus.specs.Step.{refused, played, step}
 use Rattle.bus.proofs.Entry.{Entered, entered}
 use Rattle.promises.specs.Own.{own}
+use Rattle.promises.specs.Playing.{World, Made, stepped, ledTo, afterOne, answerTo}
 use Rattle.promises.proofs.Chips.{answer-is-gathered}
 use Rattle.promises.proofs.Replies.{after-silence, one-speaks}
-use Rattle.turns.specs.Alone.{World, alone, renamed, onlyBus}
-use Rattle.turns.specs.Playing.{Made, stepped, afterOne, answerTo, ledTo}
+use Rattle.turns.specs.Alone.{alone, renamed, onlyBus}
 use Rattle.turns.proofs.Asked.{only, Asked}
 use Rattle.turns.proofs.Alone.{alone-plays, shares-fit, alone-enters, alone-whole}
 use Rattle.turns.proofs.Entering.{Entering}

@@ -1,11 +1,12 @@
 -- What demand 3 supposes can be met: a board of mixed parts, a list of turns on it with much of what a turn may hold, and a shuffle of
 -- the list. On a smaller board the answers are computed, a refusal 8 among them.
-use Prim.Native.Nat.{ℕ, zero, suc, _+_, _<_, _≤_}
+use Prim.Native.Nat.{ℕ, zero, suc, _+_, _<_, _≤_, _^_}
 use native.Mathlib.Omega.{arith}
 use mathlib.Core.Bool.{true, false}
 use mathlib.Core.List.{List, [], _∷_}
 use mathlib.Core.Path.{_≡_, _∙_, refl, sym, ap, subst}
 use lib.ListN.{length, replicate, getD-replicate, length-replicate}
+use lib.Dec.{lit<}
 use lib.Seq.{ext-getD}
 use borrow.Author.Tests.{ne-eqb}
 use Rattle.base.specs.Fold.{upTo}
@@ -14,7 +15,7 @@ use Rattle.base.proofs.Store.{span-length, span-at}
 use Rattle.parts.specs.Part.{geometryOf}
 use Rattle.load.specs.Load as load
 use Rattle.control.specs.declared.Control.{Control}
-use Rattle.control.specs.declared.phase.Phase.the-variants.{Busy}
+use Rattle.control.specs.declared.phase.Phase.the-variants.{Standby, Busy}
 use Rattle.control.specs.Control.{fresh, inPhase, wpAt}
 use Rattle.chip.specs.declared.Chip.{Chip}
 use Rattle.wellformed.specs.Wellformed as one-chip
@@ -25,16 +26,19 @@ use Rattle.lineup.specs.Chips.{chipAt, placesOf}
 use Rattle.lineup.specs.Wellformed.{wellFormed}
 use Rattle.bus.specs.declared.Bus.{Bus}
 use Rattle.bus.specs.Setup.{emptyChip}
-use Rattle.bus.specs.Step.{entryChecks, event, step}
+use Rattle.bus.specs.Step.{event, step}
+use Rattle.bus.proofs.Typed.{OfItsType}
+use Rattle.promises.specs.Playing.{World, answersTo}
 use Rattle.turns.specs.Idle.{isIdle}
 use Rattle.turns.specs.Turn.{Turn}
 use Rattle.turns.specs.Shuffle.{eventsOf, answersOf, answerOf, turnOf, isExcepted, Shuffle}
-use Rattle.turns.specs.Alone.{World, onlyBus, alone, ownTurns}
-use Rattle.turns.specs.Playing.{answersTo, ending}
+use Rattle.turns.specs.Alone.{onlyBus, alone, ownTurns}
+use Rattle.turns.specs.Playing.{ending}
 use Rattle.turns.specs.Benches.{ours}
 use Rattle.turns.specs.Undisturbed.{Ready, Turns, Alike}
-use Rattle.turns.proofs.Entering.{Entering, entering}
-use Rattle.turns.proofs.Alone.{alone-enters, alone-whole}
+use Rattle.turns.proofs.Entering.{Entering, Idling, idling, entering}
+use Rattle.turns.proofs.OneTurn.{alone-idles}
+use Rattle.turns.proofs.Typed.{ControlTyped, phase-standby, phase-busy, control-typed, chip-typed, bus-typed}
 use Rattle.turns.proofs.Undisturbed.{undisturbed}
 use Rattle.turns.proofs.Computing.{eventByEvent, computed, computed-answer, none, none-keeps}
 
@@ -46,24 +50,23 @@ abbrev line : ℕ → Control → Control → Control → Bus
 line count one two three =
     record { count = count; chips = withoutLoad one ∷ withoutLoad two ∷ withoutLoad three ∷ emptyChip ∷ [] }
 
-line-is-ready : (count : ℕ) (one two three : Control) (array security : List ℕ) → let bus = line count one two three in
-    firstOf (entryChecks bus array security) ≡ Passed → isIdle bus ≡ true → Ready (bus, array, security)
-line-is-ready count one two three array security enters idle =
-    record { whole = record { four = refl; marks = marks }; enters = enters; idle = idle }
-  where
-    marks : (i : ℕ) → i < 4 → length (chipAt (line count one two three .chips) i .load .marks) ≡ 256
-    marks zero below = refl
-    marks (suc zero) below = refl
-    marks (suc (suc zero)) below = refl
-    marks (suc (suc (suc zero))) below = refl
-    marks (suc (suc (suc (suc i)))) below = absurd (omega arith)
-
 none-loaded : load.within 0 load.empty ≡ true
 unfolding load.within upTo
 none-loaded = refl
 
 abbrev pub busy : Control → Control
 busy c = inPhase Busy c
+
+-- a fresh chip is a value of its type, and so is one that is busy or whose WP is high
+free-typed : (part strap : ℕ) → part < 256 → strap < 256 → ControlTyped (fresh part strap)
+free-typed part strap fits fits′ = control-typed part strap fits fits′ false Standby phase-standby
+
+busy-typed : (part strap : ℕ) → part < 256 → strap < 256 → ControlTyped (busy (fresh part strap))
+busy-typed part strap fits fits′ = control-typed part strap fits fits′ false Busy phase-busy
+
+line-is-typed : (count : ℕ) → count < 2 ^ 64 → (one two three : Control) → ControlTyped one → ControlTyped two → ControlTyped three → OfItsType (line count one two three)
+line-is-typed count fits one two three first second third =
+    bus-typed count fits _ _ _ _ (chip-typed one first) (chip-typed two second) (chip-typed three third) (chip-typed (fresh 0 0) (free-typed 0 0 (lit< tt) (lit< tt)))
 
 -- a 24CSM01 at strap 1, a 24CS32 at strap 0 that is busy, and a 24CS32 at strap 5 that is protected, with EWPM 0 and WP high
 abbrev pub mixed : Bus
@@ -81,11 +84,16 @@ board = (mixed, replicate arrays 0xFF, replicate securities 0xFF)
 
 mixed-is-ready : (array security : List ℕ) → length array ≡ arrays → length security ≡ securities → Ready (mixed, array, security)
 unfolding wellFormed boardVerdict placesOf upTo one-chip.wellFormed geometryOf isIdle
-mixed-is-ready array security long short = line-is-ready _ _ _ _ array security (rw (long, short, none-loaded)) (rw none-loaded)
+mixed-is-ready array security long short = record { enters = rw (long, short, none-loaded); idle = rw none-loaded }
 
 pub board-is-ready : Ready board
 unfolding board
 board-is-ready = mixed-is-ready (replicate arrays 0xFF) (replicate securities 0xFF) (length-replicate {A = ℕ} arrays 0xFF) (length-replicate {A = ℕ} securities 0xFF)
+
+pub board-is-typed : OfItsType (board .0)
+unfolding board
+board-is-typed =
+    line-is-typed 3 (lit< tt) _ _ _ (free-typed 1 1 (lit< tt) (lit< tt)) (busy-typed 2 0 (lit< tt) (lit< tt)) (control-typed 2 5 (lit< tt) (lit< tt) true Standby phase-standby)
 
 abbrev pub of : ℕ → List ℕ → Turn
 of chip events = record { chip = chip; events = events }
@@ -133,7 +141,7 @@ others-are-a-shuffle (suc (suc (suc k))) =
 
 -- so the demand speaks of them
 pub board-is-undisturbed : Alike turns others (ending ours board turns) (ending ours board others)
-board-is-undisturbed = undisturbed .shuffled board turns others board-is-ready turns-are-turns others-are-a-shuffle
+board-is-undisturbed = undisturbed .shuffled board turns others board-is-typed board-is-ready turns-are-turns others-are-a-shuffle
 
 -- part of a store that holds one byte throughout
 cut-replicate : (at n m x : ℕ) → at + n ≤ m → span at n (replicate m x) ≡ replicate n x
@@ -171,11 +179,11 @@ busy-chip-answers = (answer 0 1 refl, answer 2 1 refl, answer 2 2 refl)
     own = busyOne (replicate 4096 0xFF) (replicate 64 0xFF)
 
     enters : Entering own
-    enters = subst Entering alone-is (record { whole = alone-whole board 1 (omega arith) (board-is-ready .whole); enters = alone-enters board (board-is-ready .enters) 1 on-board })
+    enters = subst Entering alone-is (entering (alone-idles board (idling board-is-typed board-is-ready) 1 on-board))
 
     answer : (j i : ℕ) → isExcepted (turnOf 1 turns j) i ≡ false → answerOfBusy j i ≡ answerOf 0 (ownTurns 1 turns) (answersTo event own (eventsOf (ownTurns 1 turns))) j i
     answer j i usual =
-        undisturbed .by-itself board turns board-is-ready turns-are-turns 1 on-board .answers j i usual
+        undisturbed .by-itself board turns board-is-typed board-is-ready turns-are-turns 1 on-board .answers j i usual
         ∙ ap (λ (world : World). answerOf 0 (ownTurns 1 turns) (answersTo step world (eventsOf (ownTurns 1 turns))) j i) alone-is
         ∙ computed-answer none none-keeps own enters 0 (ownTurns 1 turns) j i
 
@@ -186,14 +194,27 @@ pair one two = (line 2 (one (fresh 2 0)) (two (fresh 2 1)) (fresh 0 0), 0x5A ∷
 abbrev pub free : Control → Control
 free c = c
 
-pub pairs-are-ready : Ready (pair free free) × Ready (pair busy free) × Ready (pair busy busy) × Ready (alone 0 (pair busy free))
+pub pairs-are-ready : Ready (pair free free) × Ready (pair busy free) × Ready (pair busy busy)
 unfolding wellFormed boardVerdict placesOf upTo one-chip.wellFormed geometryOf isIdle
 pairs-are-ready = (
-  line-is-ready _ _ _ _ _ _ (rw none-loaded) (rw none-loaded),
-  line-is-ready _ _ _ _ _ _ (rw none-loaded) (rw none-loaded),
-  line-is-ready _ _ _ _ _ _ (rw none-loaded) (rw none-loaded),
-  line-is-ready _ _ _ _ _ _ (rw none-loaded) (rw none-loaded),
+  record { enters = rw none-loaded; idle = rw none-loaded },
+  record { enters = rw none-loaded; idle = rw none-loaded },
+  record { enters = rw none-loaded; idle = rw none-loaded },
 )
+
+pub pairs-are-typed : OfItsType (pair free free .0) × OfItsType (pair busy free .0) × OfItsType (pair busy busy .0)
+pairs-are-typed =
+    let last = free-typed 0 0 (lit< tt) (lit< tt) in (
+      line-is-typed 2 (lit< tt) _ _ _ (free-typed 2 0 (lit< tt) (lit< tt)) (free-typed 2 1 (lit< tt) (lit< tt)) last,
+      line-is-typed 2 (lit< tt) _ _ _ (busy-typed 2 0 (lit< tt) (lit< tt)) (free-typed 2 1 (lit< tt) (lit< tt)) last,
+      line-is-typed 2 (lit< tt) _ _ _ (busy-typed 2 0 (lit< tt) (lit< tt)) (busy-typed 2 1 (lit< tt) (lit< tt)) last,
+    )
+
+-- both together, and the first chip of the second pair alone
+pub pairs-idle : Idling (pair free free) × Idling (pair busy free) × Idling (pair busy busy) × Idling (alone 0 (pair busy free))
+pairs-idle =
+    let second = idling (pairs-are-typed .1) (pairs-are-ready .1) in
+    (idling (pairs-are-typed .0) (pairs-are-ready .0), second, idling (pairs-are-typed .2) (pairs-are-ready .2), alone-idles (pair busy free) second 0 (omega arith))
 
 -- the first reads the byte at its counter
 abbrev pub firstReads : Turn
@@ -217,4 +238,4 @@ unfolding eventByEvent
 answers-in-both-orders = (by-events (firstReads ∷ secondClashes ∷ []), by-events (secondClashes ∷ firstReads ∷ []))
   where
     by-events : (list : List Turn) → toEach list (answersTo step (pair free free) (eventsOf list)) ≡ toEach list (answersTo event (pair free free) (eventsOf list))
-    by-events list = ap (toEach list) (computed none none-keeps (pair free free) (entering (pairs-are-ready .0)) (eventsOf list) .1)
+    by-events list = ap (toEach list) (computed none none-keeps (pair free free) (entering (pairs-idle .0)) (eventsOf list) .1)

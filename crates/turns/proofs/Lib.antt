@@ -18,6 +18,7 @@ pub mod Turns
 pub mod Acknowledged
 pub mod Undisturbed
 pub mod Ran
+pub mod Typed
 pub mod Setup
 mod Computing
 pub mod Examples

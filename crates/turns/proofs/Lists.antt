@@ -1,5 +1,4 @@
--- Two lists played as one are played one after the other, and every event has one answer: so a list of turns is played turn by turn, and
--- its answers are cut where its turns are. A shuffle has the same turns of each chip, so each of its turns is one.
+-- A list of turns is played turn by turn, and its answers are cut where its turns are. A shuffle has the same turns of each chip, so each of its turns is one.
 use Prim.Native.Nat.{ℕ, zero, suc, _+_, _<_, _≤_}
 use native.Mathlib.Decide.{decLt}
 use native.Mathlib.Nat.{zero-add, add-suc, add-assoc}
@@ -13,29 +12,12 @@ use lib.Seq.{take-at, drop-at, take-append-seam, drop-append-seam, take-append-l
 use borrow.Author.Tests.{eqb-true, eq-eqb}
 use Rattle.base.proofs.Fold.{and-left, and-right, and-both}
 use Rattle.board.specs.declared.Place.{Place}
+use Rattle.promises.specs.Playing.{World, Bench, after, answersTo}
+use Rattle.promises.proofs.Playing.{answers-append, answers-length}
 use Rattle.turns.specs.Turn.{Turn, isStart, isF8, isTurn}
 use Rattle.turns.specs.Shuffle.{areTurns, eventsOf, turnsOf, Shuffle, turnOf, beganAt, answersOf, answerOf, isExcepted}
-use Rattle.turns.specs.Alone.{World}
-use Rattle.turns.specs.Playing.{Bench, afterOne, answerTo, after, answersTo}
 
 module _ (bench : Bench) where
-  pub after-append : (world : World) (xs ys : List ℕ) → after bench world (xs ++ ys) ≡ after bench (after bench world xs) ys
-  unfolding after
-  after-append world [] ys = refl
-  after-append world (word ∷ more) ys = after-append (afterOne bench world word) more ys
-
-  pub answers-append : (world : World) (xs ys : List ℕ)
-      → answersTo bench world (xs ++ ys) ≡ answersTo bench world xs ++ answersTo bench (after bench world xs) ys
-  unfolding after answersTo
-  answers-append world [] ys = refl
-  answers-append world (word ∷ more) ys =
-      ap (λ (later : List ℕ). answerTo bench world word ∷ later) (answers-append (afterOne bench world word) more ys)
-
-  pub answers-length : (world : World) (events : List ℕ) → length (answersTo bench world events) ≡ length events
-  unfolding answersTo
-  answers-length world [] = refl
-  answers-length world (word ∷ more) = ap suc (answers-length (afterOne bench world word) more)
-
   pub answers-cut : (world : World) (k : ℕ) (turn : Turn) (rest : List Turn)
       → let later = answersOf k rest (answersTo bench (after bench world (turn .events)) (eventsOf rest)) in
       answersOf k (turn ∷ rest) (answersTo bench world (eventsOf (turn ∷ rest)))
@@ -43,7 +25,7 @@ module _ (bench : Bench) where
   unfolding answersOf eventsOf
   answers-cut world k turn rest =
       let first : List ℕ = answersTo bench world (turn .events) in
-      let long : length first ≡ length (turn .events) = answers-length world (turn .events) in
+      let long : length first ≡ length (turn .events) = answers-length bench world (turn .events) in
       rw (answers-append, take-at first _ _ long, drop-at first _ _ long)
 
 -- answers past those to the turns are not looked at

@@ -22,9 +22,9 @@ use Rattle.board.proofs.Laws.{placed-most}
 use Rattle.lineup.specs.Chips.{chipAt, controlAt, placeOf, placesOf}
 use Rattle.bus.specs.declared.Bus.{Bus}
 use Rattle.bus.specs.Step.{entryChecks}
+use Rattle.bus.proofs.Typed.{Whole}
 use Rattle.promises.proofs.Formed.{formed-of, of-formed, ready-of, of-ready}
 use Rattle.turns.specs.Benches.{movedTo, shared}
-use Rattle.turns.specs.Undisturbed.{Whole}
 use Rattle.turns.proofs.Entering.{Entering}
 use Rattle.turns.proofs.Computing.{Keeps}
 

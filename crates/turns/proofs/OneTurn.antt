@@ -22,21 +22,20 @@ use Rattle.lineup.specs.Chips.{chipAt, placesOf}
 use Rattle.lineup.proofs.Laws.{place-at}
 use Rattle.bus.specs.Step.{step}
 use Rattle.bus.proofs.Entry.{Entered, entered}
+use Rattle.promises.specs.Playing.{World, after, answersTo}
 use Rattle.promises.proofs.Formed.{none-holds, formed-of}
 use Rattle.turns.specs.Idle.{isAtRest, isIdle}
 use Rattle.turns.specs.Turn.{Turn, Anything, isTurnAt, isTurn}
 use Rattle.turns.specs.Shuffle.{isExcepted}
-use Rattle.turns.specs.Alone.{World, alone, renamed}
-use Rattle.turns.specs.Playing.{after, answersTo}
-use Rattle.turns.specs.Undisturbed.{Ready}
-use Rattle.turns.proofs.Entering.{entering}
+use Rattle.turns.specs.Alone.{alone, renamed}
+use Rattle.turns.proofs.Entering.{Idling, entering}
 use Rattle.turns.proofs.Alone.{alone-enters, alone-whole}
 use Rattle.turns.proofs.Others.{Others}
 use Rattle.turns.proofs.During.{During, excepted, Went}
 use Rattle.turns.proofs.Grammar.{turn-by-cases}
 use Rattle.turns.proofs.Turn.{Leads, named-leads, each-leads}
 
-module _ (began : World) (ready : Ready began) where
+module _ (began : World) (ready : Idling began) where
   abbrev count : ℕ
   count = began .0 .count
 
@@ -103,7 +102,7 @@ module _ (began : World) (ready : Ready began) where
 
 -- what a turn of chip k leaves
 pub record Leaves (began : World) (k : ℕ) (events : List ℕ) : Type 0 where
-  pub ready : Ready (after step began events)
+  pub ready : Idling (after step began events)
   pub count : after step began events .0 .count ≡ began .0 .count
   pub board : placesOf (after step began events .0 .chips) ≡ placesOf (began .0 .chips)
   pub rest : (i : ℕ) → began .0 .count ≤ i → chipAt (after step began events .0 .chips) i ≡ chipAt (began .0 .chips) i
@@ -112,7 +111,7 @@ pub record Leaves (began : World) (k : ℕ) (events : List ℕ) : Type 0 where
   pub answers : (i : ℕ) → isExcepted events i ≡ false
       → getD (answersTo step began events) i 0 ≡ getD (answersTo step (alone k began) (map renamed events)) i 0
 
-pub turn-leaves : (began : World) → Ready began → (turn : Turn) → isTurn (began .0 .count) (placesOf (began .0 .chips)) turn ≡ true
+pub turn-leaves : (began : World) → Idling began → (turn : Turn) → isTurn (began .0 .count) (placesOf (began .0 .chips)) turn ≡ true
     → Leaves began (turn .chip) (turn .events)
 unfolding isIdle
 turn-leaves began ready turn is =
@@ -156,9 +155,9 @@ turn-leaves began ready turn is =
         (λ j below. rests j (omega (arith, below, now .count, entered (ends .0) (ends .1) (ends .2) (now .entering .enters) .all-placed)) (eqb j k) refl)
 
 -- a chip alone on the line is ready for its turns too
-pub alone-ready : (world : World) → Ready world → (k : ℕ) → k < world .0 .count → Ready (alone k world)
+pub alone-idles : (world : World) → Idling world → (k : ℕ) → k < world .0 .count → Idling (alone k world)
 unfolding isIdle upTo
-alone-ready world ready k below =
+alone-idles world ready k below =
     record {
       whole = alone-whole world k (omega (arith, below, entry world ready .chips-most)) (ready .whole);
       enters = alone-enters world (ready .enters) k below;

@@ -16,9 +16,10 @@ use Rattle.chip.specs.declared.event.Event.the-variants.{Start, Stop, Sent, Rea
 use Rattle.board.specs.declared.Place.{Place}
 use Rattle.order.specs.declared.Order.the-variants.{ToAll, ToOne}
 use Rattle.lineup.specs.Chips.{chipAt, controlAt}
+use Rattle.promises.specs.Playing.{World}
 use Rattle.turns.specs.Idle.{isAtRest}
 use Rattle.turns.specs.Turn.{Anything, AddressByte, ChoiceByte, isAddressOf, isFirstByte}
-use Rattle.turns.specs.Alone.{World, alone}
+use Rattle.turns.specs.Alone.{alone}
 use Rattle.turns.proofs.Bystander.{hears-start, hears-f8, passes-first, passes-choice, passes-byte, passes-read, passes-stop, rest-clashes, lifted-sends-nothing}
 use Rattle.turns.proofs.During.{SitsThrough}
 

@@ -13,9 +13,10 @@ use Rattle.board.specs.Place.{placeAt}
 use Rattle.order.specs.Order.{kindOf, valueOf}
 use Rattle.lineup.specs.Chips.{placesOf}
 use Rattle.lineup.proofs.Laws.{place-at}
+use Rattle.promises.specs.Playing.{World}
 use Rattle.turns.specs.Turn.{Turn, isStart, isStop, isSent, isF8, isRead, isNaming, isAddressOf, isFirstByte, Next, Anything, AddressByte, ChoiceByte, goesOn, isTurnAt, isTurn}
 use Rattle.turns.specs.Shuffle.{areTurns, turnsOf}
-use Rattle.turns.specs.Alone.{World, alone, renamed, ownTurn, ownTurns}
+use Rattle.turns.specs.Alone.{alone, renamed, ownTurn, ownTurns}
 use Rattle.turns.specs.Undisturbed.{Turns}
 use Rattle.turns.proofs.Grammar.{Cases, turn-by-cases}
 use Rattle.turns.proofs.Lists.{labelled, of-each-chip}

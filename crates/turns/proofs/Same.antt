@@ -19,7 +19,8 @@ use Rattle.lineup.specs.Chips.{noChip, chipAt, placesOf}
 use Rattle.bus.specs.declared.Bus.{Bus}
 use Rattle.bus.specs.Step.{entryChecks}
 use Rattle.bus.proofs.Entry.{Entered, entered}
-use Rattle.turns.specs.Alone.{World, alone}
+use Rattle.promises.specs.Playing.{World}
+use Rattle.turns.specs.Alone.{alone}
 
 module _ (share : ℕ → ℕ) where
   same-up-to : (n : ℕ) (xs ys : List ℕ) → ((i : ℕ) → i < n → span (startOf share i) (share i) xs ≡ span (startOf share i) (share i) ys)

@@ -17,11 +17,11 @@ use Rattle.line.specs.Line.{clash}
 use Rattle.bus.specs.Step.{eventChecks, refused, played, stepBy, event, step}
 use Rattle.bus.proofs.Entry.{Entered, entered}
 use Rattle.promises.specs.Own.{own}
+use Rattle.promises.specs.Playing.{World, Made, stepped, ledTo, afterOne}
 use Rattle.promises.proofs.Chips.{each-chip-takes-its-own, the-rest-stays}
 use Rattle.promises.proofs.Kept.{places-kept}
 use Rattle.promises.proofs.Runs.{step-is-event}
-use Rattle.turns.specs.Alone.{World, alone, onlyBus}
-use Rattle.turns.specs.Playing.{Made, stepped, ledTo, afterOne}
+use Rattle.turns.specs.Alone.{alone, onlyBus}
 use Rattle.turns.proofs.Asked.{Legal}
 use Rattle.turns.proofs.Entering.{Entering}
 

@@ -17,10 +17,10 @@ use Rattle.lineup.specs.Chips.{chipAt, controlAt}
 use Rattle.keeping.proofs.Beside.{isNamed}
 use Rattle.bus.specs.Step.{step}
 use Rattle.bus.proofs.Entry.{entered}
+use Rattle.promises.specs.Playing.{World, afterOne}
 use Rattle.promises.proofs.Formed.{formed-of}
 use Rattle.turns.specs.Turn.{isStart, isStop, isSent, isF8, isNaming, isAddressOf, isFirstByte, Next, Anything, AddressByte, ChoiceByte}
-use Rattle.turns.specs.Alone.{World, alone}
-use Rattle.turns.specs.Playing.{afterOne}
+use Rattle.turns.specs.Alone.{alone}
 use Rattle.turns.proofs.Asked.{Asked, start-asks, stop-asks, sent-asks, f8-asks, read-asks, naming-asks}
 use Rattle.turns.proofs.Resting.{stop-rests, named-rests, start-heeds, f8-heeds, heeding-sends-nothing}
 use Rattle.turns.proofs.During.{During, SitsThrough, Went, event-goes, calm-goes, last-goes}

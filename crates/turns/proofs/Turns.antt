@@ -11,22 +11,24 @@ use borrow.Author.Tests.{eqb-true, eqb-false}
 use Rattle.base.proofs.Fold.{and-left, and-right}
 use Rattle.lineup.specs.Chips.{chipAt, placesOf}
 use Rattle.bus.specs.Step.{step}
+use Rattle.promises.proofs.Playing.{after-append}
+use Rattle.promises.specs.Playing.{World, after, answersTo}
 use Rattle.turns.specs.Turn.{Turn, isTurn}
 use Rattle.turns.specs.Shuffle.{areTurns, eventsOf, turnsOf, answersOf, isExcepted}
-use Rattle.turns.specs.Alone.{World, alone, renamed, ownTurn, ownTurns}
-use Rattle.turns.specs.Playing.{after, answersTo}
-use Rattle.turns.specs.Undisturbed.{Ready, Turns}
-use Rattle.turns.proofs.Lists.{after-append, answers-cut}
+use Rattle.turns.specs.Alone.{alone, renamed, ownTurn, ownTurns}
+use Rattle.turns.specs.Undisturbed.{Turns}
+use Rattle.turns.proofs.Entering.{Idling}
+use Rattle.turns.proofs.Lists.{answers-cut}
 use Rattle.turns.proofs.OneTurn.{Leaves, turn-leaves}
 
 -- what turns keep from one world to another: a bus that is ready, its count and the places past it
 pub record Passes (world ends : World) : Type 0 where
-  pub ready : Ready ends
+  pub ready : Idling ends
   pub count : ends .0 .count ≡ world .0 .count
   pub rest : (i : ℕ) → world .0 .count ≤ i → chipAt (ends .0 .chips) i ≡ chipAt (world .0 .chips) i
 
 -- the first turn of a list, and where the others begin
-module _ (world : World) (ready : Ready world) (turn : Turn) (rest : List Turn) (are : Turns world (turn ∷ rest)) where
+module _ (world : World) (ready : Idling world) (turn : Turn) (rest : List Turn) (are : Turns world (turn ∷ rest)) where
   abbrev next : World
   next = after step world (turn .events)
 
@@ -49,7 +51,7 @@ module _ (world : World) (ready : Ready world) (turn : Turn) (rest : List Turn) 
   other-next : (k : ℕ) → k < world .0 .count → (turn .chip ≡ k → ⊥) → alone k next ≡ alone k world
   other-next k below differ = leaves .others k below (λ (is : k ≡ turn .chip). differ (sym is))
 
-pub turns-pass : (turns : List Turn) (world : World) → Ready world → Turns world turns → Passes world (after step world (eventsOf turns))
+pub turns-pass : (turns : List Turn) (world : World) → Idling world → Turns world turns → Passes world (after step world (eventsOf turns))
 unfolding after eventsOf
 turns-pass [] world ready are = record { ready = ready; count = refl; rest = λ i past. refl }
 turns-pass (turn ∷ rest) world ready are =
@@ -63,7 +65,7 @@ turns-pass (turn ∷ rest) world ready are =
     }
     )
 
-pub ends-alone : (turns : List Turn) (world : World) → Ready world → Turns world turns → (k : ℕ) → k < world .0 .count
+pub ends-alone : (turns : List Turn) (world : World) → Idling world → Turns world turns → (k : ℕ) → k < world .0 .count
     → alone k (after step world (eventsOf turns)) ≡ after step (alone k world) (eventsOf (ownTurns k turns))
 unfolding after eventsOf turnsOf
 ends-alone [] world ready are k below = refl
@@ -100,7 +102,7 @@ module _ (k : ℕ) where
   same-more events own a b one other first later zero i usual = first i usual
   same-more events own a b one other first later (suc j) i usual = later j i usual
 
-  pub answers-alone : (turns : List Turn) (world : World) → Ready world → Turns world turns → k < world .0 .count
+  pub answers-alone : (turns : List Turn) (world : World) → Idling world → Turns world turns → k < world .0 .count
       → Same (turnsOf k turns) (inList world turns) (inOwn (alone k world) (turnsOf k turns))
   unfolding turnsOf answersOf
   answers-alone [] world ready are below = λ j i usual. refl

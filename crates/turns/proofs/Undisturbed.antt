@@ -12,13 +12,14 @@ use Rattle.base.proofs.Fold.{and-left, and-right}
 use Rattle.board.specs.declared.Place.{Place}
 use Rattle.lineup.specs.Chips.{placesOf}
 use Rattle.bus.specs.Step.{step}
+use Rattle.promises.specs.Playing.{World, after, answersTo}
 use Rattle.turns.specs.Turn.{Turn, isTurn}
 use Rattle.turns.specs.Shuffle.{beganAt, areTurns, eventsOf, Shuffle, turnOf, answersOf, answerOf, isExcepted}
-use Rattle.turns.specs.Alone.{World, alone, ownTurn, ownTurns}
-use Rattle.turns.specs.Playing.{after, answersTo, ending}
+use Rattle.turns.specs.Alone.{alone, ownTurn, ownTurns}
+use Rattle.turns.specs.Playing.{ending}
 use Rattle.turns.specs.Benches.{ours}
-use Rattle.turns.specs.Undisturbed.{Ready, Turns, AsAlone, Undisturbed}
-use Rattle.turns.proofs.Entering.{entering}
+use Rattle.turns.specs.Undisturbed.{Turns, AsAlone, Undisturbed}
+use Rattle.turns.proofs.Entering.{Idling, idling, entering}
 use Rattle.turns.proofs.Lists.{answer-at, excepted-inside, excepted-at, shuffle-turns}
 use Rattle.turns.proofs.Same.{same-world}
 use Rattle.turns.proofs.Turns.{turns-pass, ends-alone, answers-alone}
@@ -33,12 +34,12 @@ no-answers count places k (turn ∷ rest) answers are past =
     rw (ne-eqb (turn .chip) k (λ same. omega (arith, same)))
     (no-answers count places k rest (drop (length (turn .events)) answers) (and-right (isTurn count places turn) _ are) past)
 
-by-itself : (world : World) (turns : List Turn) → Ready world → Turns world turns → (k : ℕ) → k < world .0 .count
+by-itself : (world : World) (turns : List Turn) → Idling world → Turns world turns → (k : ℕ) → k < world .0 .count
     → AsAlone k turns (ending step world turns) (ending step (alone k world) (ownTurns k turns))
 by-itself world turns ready are k below =
     record { ends = ends-alone turns world ready are k below; answers = answers-alone k turns world ready are below }
 
-module _ (world : World) (turns others : List Turn) (ready : Ready world) (are : Turns world turns) (shuffle : Shuffle turns others) where
+module _ (world : World) (turns others : List Turn) (ready : Idling world) (are : Turns world turns) (shuffle : Shuffle turns others) where
   are-too : Turns world others
   are-too = shuffle-turns (world .0 .count) (placesOf (world .0 .chips)) turns others are shuffle
 
@@ -75,10 +76,10 @@ module _ (world : World) (turns others : List Turn) (ready : Ready world) (are :
 pub undisturbed : Undisturbed ours
 undisturbed =
     record {
-      shuffled = λ world turns others ready are shuffle.
-          record { ends = ends-same world turns others ready are shuffle; answers = answers-same world turns others ready are shuffle };
-      by-itself = by-itself;
-      excepted = λ world turns ready are k j i is.
+      shuffled = λ world turns others typed ready are shuffle.
+          let idle = idling typed ready in record { ends = ends-same world turns others idle are shuffle; answers = answers-same world turns others idle are shuffle };
+      by-itself = λ world turns typed ready. by-itself world turns (idling typed ready);
+      excepted = λ world turns typed ready are k j i is.
           answer-at k turns (answersTo step world (eventsOf turns)) j i (excepted-inside (turnOf k turns j) i is)
-          ∙ f8-acknowledged (eventsOf turns) world (entering ready) (beganAt k turns j + i) (excepted-at k turns j i is);
+          ∙ f8-acknowledged (eventsOf turns) world (entering (idling typed ready)) (beganAt k turns j + i) (excepted-at k turns j i is);
     }

@@ -11,12 +11,9 @@ use Rattle.lineup.specs.Chips.{chipAt, placesOf}
 use Rattle.line.specs.Line.{arrayShare, securityShare}
 use Rattle.bus.specs.declared.Bus.{Bus}
 use Rattle.bus.specs.Setup.{emptyChip}
+use Rattle.promises.specs.Playing.{World}
 use Rattle.turns.specs.Turn.{Turn}
 use Rattle.turns.specs.Shuffle.{turnsOf}
-
--- a state and both stores
-abbrev pub World : Type 0
-World = Bus × List ℕ × List ℕ
 
 -- a bus of one chip
 abbrev pub onlyBus : Chip → Bus

@@ -9,9 +9,9 @@ use Rattle.control.specs.Control.{arrayAt}
 use Rattle.chip.specs.declared.Chip.{Chip}
 use Rattle.lineup.specs.Chips.{controlAt}
 use Rattle.bus.specs.Step.{step}
+use Rattle.promises.specs.Playing.{World, Made, Bench, stepped}
 use Rattle.turns.specs.Turn.{isF8}
-use Rattle.turns.specs.Alone.{World, alone}
-use Rattle.turns.specs.Playing.{Made, Bench, stepped}
+use Rattle.turns.specs.Alone.{alone}
 
 -- a fault changes what was made of a world and an event
 abbrev pub Fault : Type 0

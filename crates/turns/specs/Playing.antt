@@ -1,44 +1,10 @@
--- Playing a list of events: one step after the other.
+-- Where a list of turns ends, and its answers.
+use mathlib.Core.List.{List}
 use Prim.Native.Nat.{ℕ}
-use mathlib.Core.List.{List, [], _∷_}
-use Rattle.refusal.specs.Refusal.{answerWord}
-use Rattle.bus.specs.declared.Bus.{Bus}
-use Rattle.bus.specs.declared.Stepped.{Stepped}
+use Rattle.promises.specs.Playing.{World, Bench, after, answersTo}
 use Rattle.turns.specs.Turn.{Turn}
 use Rattle.turns.specs.Shuffle.{eventsOf}
-use Rattle.turns.specs.Alone.{World}
 
--- what a bench makes of one event, ours or another: the next state and an answer, and both stores
-abbrev pub Made : Type 0
-Made = Stepped × List ℕ × List ℕ
-
-abbrev pub Bench : Type 0
-Bench = Bus → List ℕ → List ℕ → ℕ → Made
-
-abbrev pub stepped : Bench → World → ℕ → Made
-stepped bench world word = bench (world .0) (world .1) (world .2) word
-
--- where that has led to
-abbrev pub ledTo : Made → World
-ledTo made = (made .0 .bus, made .1, made .2)
-
-abbrev pub afterOne : Bench → World → ℕ → World
-afterOne bench world word = ledTo (stepped bench world word)
-
-abbrev pub answerTo : Bench → World → ℕ → ℕ
-answerTo bench world word = answerWord (stepped bench world word .0 .answer)
-
--- everything held afterwards
-unfoldable pub after : Bench → World → List ℕ → World
-after bench world [] = world
-after bench world (word ∷ more) = after bench (afterOne bench world word) more
-
--- each answer
-unfoldable pub answersTo : Bench → World → List ℕ → List ℕ
-answersTo bench world [] = []
-answersTo bench world (word ∷ more) = answerTo bench world word ∷ answersTo bench (afterOne bench world word) more
-
--- where a list of turns ends, and its answers
 abbrev pub Ending : Type 0
 Ending = World × List ℕ
 

@@ -3,30 +3,26 @@ use Prim.Native.Nat.{ℕ, _+_, _<_}
 use mathlib.Core.Bool.{Bool, true, false, cond, not}
 use mathlib.Core.List.{List}
 use mathlib.Core.Path.{_≡_}
-use lib.ListN.{length, take}
+use lib.ListN.{take}
 use Rattle.base.specs.Fold.{anyBelow}
 use Rattle.base.specs.Word.{wordOf}
 use Rattle.control.specs.Phase.{isBusy}
 use Rattle.refusal.specs.declared.Verdict.the-variants.{Passed}
 use Rattle.refusal.specs.Checks.{firstOf}
 use Rattle.board.specs.Place.{placed}
-use Rattle.lineup.specs.Chips.{chipAt, controlAt, placesOf}
+use Rattle.lineup.specs.Chips.{controlAt, placesOf}
 use Rattle.bus.specs.declared.Bus.{Bus}
 use Rattle.bus.specs.Step.{entryChecks}
+use Rattle.bus.proofs.Typed.{OfItsType}
+use Rattle.promises.specs.Playing.{World, Bench, after, answersTo}
 use Rattle.turns.specs.Idle.{isIdle}
 use Rattle.turns.specs.Turn.{Turn}
 use Rattle.turns.specs.Shuffle.{areTurns, eventsOf, Shuffle, turnOf, beganAt, answerOf, isExcepted}
-use Rattle.turns.specs.Alone.{World, alone, ownTurns}
-use Rattle.turns.specs.Playing.{Bench, after, answersTo, Ending, ending}
-
--- what every value of the type `Bus` has: four places, and 256 marks in the load of each
-pub record Whole (bus : Bus) : Type 0 where
-  pub four : length (bus .chips) ≡ 4
-  pub marks : (i : ℕ) → i < 4 → length (chipAt (bus .chips) i .load .marks) ≡ 256
+use Rattle.turns.specs.Alone.{alone, ownTurns}
+use Rattle.turns.specs.Playing.{Ending, ending}
 
 -- turns may begin: the bus is well formed and idle, and its stores are of the right length
 pub record Ready (world : World) : Type 0 where
-  pub whole : Whole (world .0)
   pub enters : firstOf (entryChecks (world .0) (world .1) (world .2)) ≡ Passed
   pub idle : isIdle (world .0) ≡ true
 
@@ -53,14 +49,14 @@ isSomeFree bus = anyBelow (λ (i : ℕ). not (isBusy (controlAt (bus .chips) i .
 abbrev pub acknowledge : Bus → ℕ
 acknowledge bus = wordOf 0 (cond (isSomeFree bus) 0x01 0x00)
 
--- demand 3 of a bench, over what it makes of single events
+-- demand 3 of a bench, over what it makes of single events; the bus is a value of its type
 pub record Undisturbed (bench : Bench) : Type 0 where
-  pub shuffled : (world : World) (turns others : List Turn) → Ready world → Turns world turns → Shuffle turns others
+  pub shuffled : (world : World) (turns others : List Turn) → OfItsType (world .0) → Ready world → Turns world turns → Shuffle turns others
       → Alike turns others (ending bench world turns) (ending bench world others)
-  pub by-itself : (world : World) (turns : List Turn) → Ready world → Turns world turns
+  pub by-itself : (world : World) (turns : List Turn) → OfItsType (world .0) → Ready world → Turns world turns
       → (k : ℕ) → k < world .0 .count
       → AsAlone k turns (ending bench world turns) (ending bench (alone k world) (ownTurns k turns))
   -- and the excepted answer
-  pub excepted : (world : World) (turns : List Turn) → Ready world → Turns world turns
+  pub excepted : (world : World) (turns : List Turn) → OfItsType (world .0) → Ready world → Turns world turns
       → (k j i : ℕ) → isExcepted (turnOf k turns j) i ≡ true
       → answerOf k turns (answersTo bench world (eventsOf turns)) j i ≡ acknowledge (after bench world (take (beganAt k turns j + i) (eventsOf turns)) .0)

@@ -1,0 +1,46 @@
+-- What holds of every element of a list holds of every element of its parts, of two lists joined, and with one element exchanged for
+-- another of which it holds.
+use Prim.Native.Nat.{ℕ, zero, suc, _<_}
+use native.Mathlib.Nat.{not-suc-le-zero, le-of-suc-le-suc}
+use mathlib.Core.List.{List, [], _∷_, _++_}
+use lib.ListN.{length, getD, take, drop, set}
+use Rattle.base.specs.Store.{span, patched}
+use Rattle.base.specs.Every.{Every}
+
+module _ {A : Type 0} (P : A → Type 0) where
+  pub every-at : (xs : List A) (i : ℕ) (d : A) → Every P xs → P d → P (getD xs i d)
+  every-at [] i d all none = none
+  every-at (x ∷ xs) zero d all none = all .0
+  every-at (x ∷ xs) (suc i) d all none = every-at xs i d (all .1) none
+
+  pub every-below : (xs : List A) (i : ℕ) (d : A) → Every P xs → i < length xs → P (getD xs i d)
+  every-below [] i d all below = absurd (not-suc-le-zero below)
+  every-below (x ∷ xs) zero d all below = all .0
+  every-below (x ∷ xs) (suc i) d all below = every-below xs i d (all .1) (le-of-suc-le-suc below)
+
+  pub every-set : (xs : List A) (i : ℕ) (a : A) → Every P xs → P a → Every P (set xs i a)
+  every-set [] i a all new = tt
+  every-set (x ∷ xs) zero a all new = (new, all .1)
+  every-set (x ∷ xs) (suc i) a all new = (all .0, every-set xs i a (all .1) new)
+
+  every-take : (n : ℕ) (xs : List A) → Every P xs → Every P (take n xs)
+  every-take zero xs all = tt
+  every-take (suc n) [] all = tt
+  every-take (suc n) (x ∷ xs) all = (all .0, every-take n xs (all .1))
+
+  every-drop : (n : ℕ) (xs : List A) → Every P xs → Every P (drop n xs)
+  every-drop zero xs all = all
+  every-drop (suc n) [] all = tt
+  every-drop (suc n) (x ∷ xs) all = every-drop n xs (all .1)
+
+  every-append : (xs ys : List A) → Every P xs → Every P ys → Every P (xs ++ ys)
+  every-append [] ys all more = more
+  every-append (x ∷ xs) ys all more = (all .0, every-append xs ys (all .1) more)
+
+  pub every-span : (at n : ℕ) (store : List A) → Every P store → Every P (span at n store)
+  every-span at n store all = every-take n (drop at store) (every-drop at store all)
+
+  pub every-patched : (at : ℕ) (values store : List A) → Every P values → Every P store → Every P (patched at values store)
+  every-patched at values store new all =
+      every-append (take at store) _ (every-take at store all)
+      (every-append values _ new (every-drop (length values) (drop at store) (every-drop at store all)))

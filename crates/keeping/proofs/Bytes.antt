@@ -1,0 +1,254 @@
+-- Bytes stay bytes under every event: a chip loads, stores and configures only what the host sent, and sends only what it holds, its ID
+-- bytes, or FF.
+use Prim.Native.Nat.{ℕ, _*_}
+use native.Mathlib.Omega.{arith}
+use mathlib.Core.Bool.{Bool, not, _&&_}
+use mathlib.Core.List.{List, [], _∷_}
+use lib.Dec.{eqb}
+use Rattle.base.specs.Every.{FitsByte, AllBytes}
+use Rattle.base.proofs.test.Laws.{either}
+use Rattle.base.proofs.Fold.{up-keeps}
+use Rattle.base.proofs.Every.{every-at, every-set}
+use Rattle.parts.specs.declared.part.Geometry.{Geometry}
+use Rattle.parts.specs.Part.{geometry24CSM01, geometry24CS32, geometryOf}
+use Rattle.regions.specs.Page.{pageOf}
+use Rattle.load.specs.declared.Load.{Load}
+use Rattle.load.specs.Load.{emptied, isMarked, storePlace, storePage}
+use Rattle.control.specs.declared.Control.{Control}
+use Rattle.control.specs.declared.Answered.{Answered}
+use Rattle.control.specs.declared.phase.Phase.{Phase}
+use Rattle.control.specs.declared.phase.Phase.the-variants.{Standby, Busy, AwaitsAddress, AwaitsChoice, AwaitsWord, TakesData, SendsByte}
+use Rattle.control.specs.declared.phase.Word.{Word}
+use Rattle.control.specs.declared.phase.Word.the-variants.{ArrayFirst, ArraySecond, RegisterFirst, RegisterSecond}
+use Rattle.control.specs.declared.phase.Data.{Data}
+use Rattle.control.specs.declared.phase.Data.the-variants.{ToArray, ToSecurity, ToConfiguration, ToLock, ToNowhere}
+use Rattle.control.specs.declared.phase.Came.{Came}
+use Rattle.control.specs.declared.phase.Came.the-variants.{Zero, One, Two, Three, More}
+use Rattle.control.specs.declared.phase.Source.{Source}
+use Rattle.control.specs.declared.phase.Source.the-variants.{FromArray, FromSecurity, FromConfiguration, FromId, FromNothing}
+use Rattle.control.specs.Phase.{isBusy}
+use Rattle.control.specs.Bits.{lock}
+use Rattle.control.specs.Control.{inPhase}
+use Rattle.addressing.specs.declared.Call.{Call}
+use Rattle.addressing.specs.declared.Call.the-variants.{ReadArray, WriteArray, ReadRegister, WriteRegister, HostF8, HostF9, Nobody}
+use Rattle.addressing.specs.Address.{callOf, takeCall, takeAddress, takeChosen, takeChoice}
+use Rattle.words.specs.declared.Register.{Register}
+use Rattle.words.specs.declared.Register.the-variants.{Security, Configuration, Lock, Nowhere}
+use Rattle.words.specs.Word.{registerOf, isLock, takeNamed, takeWord}
+use Rattle.taking.specs.Taking.{cameMore, takeData, takeIn, take, loadedData, loadedIn, loaded}
+use Rattle.sending.specs.Sending.{noByte, byteFrom, movedPast, readIn, read}
+use Rattle.configuration.specs.Configuration.{confirms, stopConfiguration}
+use Rattle.cycle.specs.Stop.{writesArray, writesSecurity, stopData, stopIn, stop}
+use Rattle.chip.specs.declared.Chip.{Chip}
+use Rattle.chip.specs.declared.event.Event.{Event}
+use Rattle.chip.specs.declared.event.Event.the-variants.{Start, Stop, Sent, Read, Wp, CycleOver, PowerUp}
+use Rattle.chip.specs.Chip as chip
+use Rattle.keeping.specs.Bytes.{bytesCame, bytesIn, ControlBytes, ChipBytes, SaidByte, EventByte, StepBytes}
+use Rattle.keeping.proofs.Shares.{shares-keep}
+
+-- what a chip makes of a byte sent or read
+abbrev Answers : Answered → Type 0
+Answers answered = ControlBytes (answered .control) × SaidByte (answered .said)
+
+-- in a phase that keeps none of what came
+rests : (c : Control) → ControlBytes c → AllBytes (c .config0 ∷ c .config1 ∷ [])
+rests c now = (now .0, (now .1 .0, tt))
+
+more-came : (came : Came) (byte : ℕ) → AllBytes (bytesCame came) → FitsByte byte → AllBytes (bytesCame (cameMore came byte))
+more-came Zero byte held sent = (sent, tt)
+more-came (One first) byte held sent = (held .0, (sent, tt))
+more-came (Two first second) byte held sent = (held .0, (held .1 .0, (sent, tt)))
+more-came (Three first second third) byte held sent = tt
+more-came More byte held sent = tt
+
+-- a byte sent: only the configuration register's are kept outside of the load
+module _ (c : Control) (byte : ℕ) (now : ControlBytes c) (sent : FitsByte byte) where
+  plain : AllBytes (c .config0 ∷ c .config1 ∷ []) × Unit {0}
+  plain = (rests c now, tt)
+
+  to-call : (call : Call) → Answers (takeCall call c)
+  to-call ReadArray = plain
+  to-call (WriteArray a16) = plain
+  to-call ReadRegister = plain
+  to-call WriteRegister = plain
+  to-call HostF8 = plain
+  to-call HostF9 = either Answers (c .chosen) _ _ plain plain
+  to-call Nobody = plain
+
+  to-choice : (call : Call) → Answers (takeChosen call c)
+  to-choice ReadArray = plain
+  to-choice (WriteArray a16) = plain
+  to-choice ReadRegister = plain
+  to-choice WriteRegister = plain
+  to-choice HostF8 = plain
+  to-choice HostF9 = plain
+  to-choice Nobody = plain
+
+  to-named : (first : ℕ) (register : Register) → Answers (takeNamed register first c byte)
+  to-named first Security = plain
+  to-named first Configuration = plain
+  to-named first Lock = either Answers (c .locked) _ _ plain plain
+  to-named first Nowhere = plain
+
+  to-word : (word : Word) → Answers (takeWord word c byte)
+  to-word (ArrayFirst a16) = plain
+  to-word (ArraySecond a16 first) = plain
+  to-word RegisterFirst = either Answers (c .locked && isLock (registerOf byte)) _ _ plain plain
+  to-word (RegisterSecond first) = to-named first (registerOf first)
+
+  to-data : (kind : Data) → AllBytes (bytesIn (TakesData kind)) → Answers (takeData kind c byte)
+  to-data ToArray held = plain
+  to-data ToSecurity held = plain
+  to-data (ToConfiguration came) held = ((now .0, (now .1 .0, more-came came byte held sent)), tt)
+  to-data (ToLock some) held = either Answers (c .locked) _ _ plain plain
+  to-data ToNowhere held = plain
+
+  take-bytes : (phase : Phase) → AllBytes (bytesIn phase) → Answers (takeIn phase c byte)
+  unfolding takeAddress takeChoice
+  take-bytes Standby held = (now, tt)
+  take-bytes Busy held = (now, tt)
+  take-bytes AwaitsAddress held = to-call (callOf (geometryOf (c .part)) (c .strap) byte)
+  take-bytes AwaitsChoice held = to-choice (callOf (geometryOf (c .part)) (c .strap) byte)
+  take-bytes (AwaitsWord word) held = to-word word
+  take-bytes (TakesData kind) held = to-data kind held
+  take-bytes (SendsByte source) held = (now, tt)
+
+-- its load
+module _ (c : Control) (load : Load) (byte : ℕ) (held : AllBytes (load .values)) (sent : FitsByte byte) where
+  loaded-data : (kind : Data) → AllBytes (loadedData kind load c byte .values)
+  loaded-data ToArray = every-set FitsByte (load .values) _ byte held sent
+  loaded-data ToSecurity = every-set FitsByte (load .values) _ byte held sent
+  loaded-data (ToConfiguration came) = held
+  loaded-data (ToLock some) = either (λ (x : Load). AllBytes (x .values)) (c .locked) (emptied load) load held held
+  loaded-data ToNowhere = held
+
+  loaded-bytes : (phase : Phase) → AllBytes (loadedIn phase load c byte .values)
+  loaded-bytes Standby = held
+  loaded-bytes Busy = held
+  loaded-bytes AwaitsAddress = held
+  loaded-bytes AwaitsChoice = held
+  loaded-bytes (AwaitsWord word) = held
+  loaded-bytes (TakesData kind) = loaded-data kind
+  loaded-bytes (SendsByte source) = held
+
+-- a byte read
+id-bytes : (part : ℕ) → AllBytes (geometryOf part .id)
+unfolding geometryOf
+id-bytes part = either (λ (g : Geometry). AllBytes (g .id)) (eqb part 1) geometry24CSM01 geometry24CS32 (omega arith) (omega arith)
+
+module _ (c : Control) (array security : List ℕ) (now : ControlBytes c) (in-array : AllBytes array) (in-security : AllBytes security) where
+  byte-from : (source : Source) → FitsByte (byteFrom source c array security)
+  byte-from FromArray = every-at FitsByte array (c .array) noByte in-array (omega arith)
+  byte-from FromSecurity = every-at FitsByte security (c .security) noByte in-security (omega arith)
+  byte-from (FromConfiguration second) = either FitsByte second (c .config1) (c .config0) (now .1 .0) (now .0)
+  byte-from (FromId place) = every-at FitsByte (geometryOf (c .part) .id) place noByte (id-bytes (c .part)) (omega arith)
+  byte-from FromNothing = omega arith
+
+  moved-bytes : (source : Source) → ControlBytes (movedPast source c)
+  moved-bytes FromArray = now
+  moved-bytes FromSecurity = now
+  moved-bytes (FromConfiguration second) = rests c now
+  moved-bytes (FromId place) = rests c now
+  moved-bytes FromNothing = now
+
+  read-bytes : (phase : Phase) (nack : Bool) → Answers (readIn phase c array security nack)
+  read-bytes Standby nack = (now, tt)
+  read-bytes Busy nack = (now, tt)
+  read-bytes AwaitsAddress nack = (now, tt)
+  read-bytes AwaitsChoice nack = (now, tt)
+  read-bytes (AwaitsWord word) nack = (now, tt)
+  read-bytes (TakesData kind) nack = (now, tt)
+  read-bytes (SendsByte source) nack =
+      let moved = moved-bytes source in
+      (either ControlBytes nack (inPhase Standby (movedPast source c)) (movedPast source c) (rests (movedPast source c) moved) moved, byte-from source)
+
+-- Stop
+page-stored : (g : Geometry) (at : ℕ) (load : Load) (store : List ℕ) → AllBytes (load .values) → AllBytes store → AllBytes (storePage g at load store)
+unfolding storePage
+page-stored g at load store in-load in-store =
+    up-keeps (storePlace load (pageOf g at * g .page)) AllBytes
+    (λ place now so-far.
+    either AllBytes (isMarked load place) _ now (every-set FitsByte now _ _ so-far (every-at FitsByte (load .values) place 0 in-load (omega arith))) so-far)
+    (g .page)
+    store
+    in-store
+
+module _ (c : Control) (load : Load) (array security : List ℕ) (now : ControlBytes c) where
+  idle : AllBytes (c .config0 ∷ c .config1 ∷ [])
+  idle = rests c now
+
+  configured-bytes : (came : Came) → AllBytes (bytesCame came) → ControlBytes (stopConfiguration came c)
+  configured-bytes Zero held = idle
+  configured-bytes (One first) held = idle
+  configured-bytes (Two first second) held = idle
+  configured-bytes (Three first second third) held =
+      either ControlBytes (confirms first third && not (lock c)) _ _ (omega arith, (held .1 .0, tt)) idle
+  configured-bytes More held = idle
+
+  data-stopped : (kind : Data) → AllBytes (bytesIn (TakesData kind)) → ControlBytes (stopData kind c load array security .0)
+  data-stopped ToArray held = either (λ (x : Control × List ℕ). ControlBytes (x .0)) (writesArray c load) _ _ idle idle
+  data-stopped ToSecurity held = either (λ (x : Control × List ℕ). ControlBytes (x .0)) (writesSecurity c load) _ _ idle idle
+  data-stopped (ToConfiguration came) held = configured-bytes came held
+  data-stopped (ToLock some) held = either ControlBytes (some && not (c .locked)) _ _ idle idle
+  data-stopped ToNowhere held = idle
+
+  stop-bytes : (phase : Phase) → AllBytes (bytesIn phase) → ControlBytes (stopIn phase c load array security .0)
+  stop-bytes Standby held = idle
+  stop-bytes Busy held = now
+  stop-bytes AwaitsAddress held = idle
+  stop-bytes AwaitsChoice held = idle
+  stop-bytes (AwaitsWord word) held = idle
+  stop-bytes (TakesData kind) held = data-stopped kind held
+  stop-bytes (SendsByte source) held = idle
+
+-- both shares
+abbrev Shares : List ℕ → List ℕ → Type 0
+Shares array security = AllBytes array × AllBytes security
+
+module _ (c : Control) (load : Load) (array security : List ℕ) (in-load : AllBytes (load .values)) (in-array : AllBytes array) (in-security : AllBytes security) where
+  shares-stopped : (kind : Data) → Shares (stopData kind c load array security .1) (stopData kind c load array security .2)
+  shares-stopped ToArray =
+      (either (λ (x : Control × List ℕ). AllBytes (x .1)) (writesArray c load) _ _ (page-stored (geometryOf (c .part)) (c .array) load array in-load in-array) in-array, in-security)
+  shares-stopped ToSecurity =
+      (in-array, either (λ (x : Control × List ℕ). AllBytes (x .1)) (writesSecurity c load) _ _ (page-stored (geometryOf (c .part)) (c .security) load security in-load in-security) in-security)
+  shares-stopped (ToConfiguration came) = (in-array, in-security)
+  shares-stopped (ToLock some) = (in-array, in-security)
+  shares-stopped ToNowhere = (in-array, in-security)
+
+module _ (c : Chip) (array security : List ℕ) (now : ChipBytes c) (in-array : AllBytes array) (in-security : AllBytes security) where
+  start-bytes : ChipBytes (chip.start c)
+  start-bytes = either ChipBytes (isBusy (c .control .phase)) c _ now (rests (c .control) (now .0), now .1)
+
+  stopped-bytes : ChipBytes (chip.stop c array security .0)
+  unfolding stop
+  stopped-bytes =
+      either (λ (x : Chip × List ℕ × List ℕ). ChipBytes (x .0)) (isBusy (c .control .phase)) (c, array, security) _ now
+      (stop-bytes (c .control) (c .load) array security (now .0) (c .control .phase) (now .0 .1 .1), now .1)
+
+  over-bytes : ChipBytes (chip.cycleOver c)
+  over-bytes = either ChipBytes (isBusy (c .control .phase)) _ c (rests (c .control) (now .0), now .1) now
+
+  in-shares : (event : Event) → Shares (chip.step c array security event .1) (chip.step c array security event .2)
+  in-shares =
+      shares-keep c array security Shares (in-array, in-security)
+      (shares-stopped (c .control) (c .load) array security (now .1) in-array in-security)
+
+  in-chip : (event : Event) → EventByte event → ChipBytes (chip.step c array security event .0 .chip) × SaidByte (chip.step c array security event .0 .said)
+  unfolding chip.step take loaded read
+  in-chip Start brought = (start-bytes, tt)
+  in-chip Stop brought = (stopped-bytes, tt)
+  in-chip (Sent byte) brought =
+      let answer = take-bytes (c .control) byte (now .0) brought (c .control .phase) (now .0 .1 .1) in
+      ((answer .0, loaded-bytes (c .control) (c .load) byte (now .1) brought (c .control .phase)), answer .1)
+  in-chip (Read nack) brought =
+      let answer = read-bytes (c .control) array security (now .0) in-array in-security (c .control .phase) nack in
+      ((answer .0, now .1), answer .1)
+  in-chip (Wp level) brought = (now, tt)
+  in-chip CycleOver brought = (over-bytes, tt)
+  in-chip PowerUp brought = ((rests (c .control) (now .0), now .1), tt)
+
+  pub bytes-stay-bytes : (event : Event) → EventByte event → StepBytes (chip.step c array security event)
+  bytes-stay-bytes event brought =
+      let (chip, said) = in-chip event brought in
+      let (array, security) = in-shares event in
+      (chip, said, array, security)

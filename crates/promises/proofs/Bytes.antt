@@ -1,0 +1,180 @@
+-- Bytes stay bytes on the line, and every reply is a byte: a chip's shares are parts of the stores, its state and shares go back in their
+-- places, and the line carries what a chip said, or 00 or FF.
+use Prim.Native.Nat.{ℕ, _<_}
+use native.Mathlib.Omega.{arith}
+use mathlib.Core.List.{List, [], _∷_}
+use lib.Dec.{eqb}
+use Rattle.base.specs.Every.{Every, FitsByte, AllBytes}
+use Rattle.base.proofs.test.Laws.{either}
+use Rattle.base.proofs.Fold.{up-keeps}
+use Rattle.base.proofs.Every.{every-at, every-set, every-span, every-patched}
+use Rattle.control.specs.declared.Said.{Said}
+use Rattle.control.specs.declared.Said.the-variants.{Nothing, Ack, Byte}
+use mir.Val.{Val}
+use denote.Laws.{Is}
+use Rattle.control.specs.declared.phase.Phase.{Phase}
+use Rattle.control.specs.declared.phase.Phase.the-variants.{Standby, Busy, AwaitsAddress, AwaitsChoice, AwaitsWord, TakesData, SendsByte}
+use Rattle.control.specs.declared.phase.Data.{Data}
+use Rattle.control.specs.declared.phase.Data.the-variants.{ToArray, ToSecurity, ToConfiguration, ToLock, ToNowhere}
+use Rattle.control.specs.declared.phase.Came.{Came}
+use Rattle.control.specs.declared.phase.Came.the-variants.{Zero, One, Two, Three, More}
+use Rattle.control.proofs.phase.Phase as phases
+use Rattle.control.proofs.phase.Data as datas
+use Rattle.control.proofs.phase.Came as cames
+use Rattle.chip.specs.declared.Chip.{Chip}
+use Rattle.chip.proofs.Chip as chips
+use Rattle.chip.specs.declared.Stepped as chip
+use Rattle.chip.specs.declared.event.Event.{Event}
+use Rattle.chip.specs.declared.event.Event.the-variants.{Start, Stop, Sent, Read, Wp, CycleOver, PowerUp}
+use Rattle.chip.specs.Chip as one-chip
+use Rattle.keeping.specs.Bytes.{bytesCame, bytesTaken, bytesIn, ChipBytes, SaidByte, EventByte, StepBytes}
+use Rattle.keeping.proofs.Bytes.{bytes-stay-bytes}
+use Rattle.refusal.specs.declared.Verdict.{Verdict}
+use Rattle.refusal.specs.declared.Verdict.the-variants.{Passed, Refused}
+use Rattle.refusal.specs.declared.Answer.{Answer}
+use Rattle.refusal.specs.declared.Answer.the-variants as answer
+use Rattle.refusal.specs.Checks.{firstOf}
+use Rattle.board.specs.declared.Place.{Place}
+use Rattle.board.specs.Place.{placed}
+use Rattle.board.specs.Shares.{figuresAt, arrayStart, securityStart}
+use Rattle.order.specs.declared.Order.{Order}
+use Rattle.order.specs.Order.{kindOf, orderOf, reaches, eventOf}
+use Rattle.lineup.specs.Chips.{noChip, chipAt, placesOf}
+use Rattle.line.specs.declared.Played.{Played}
+use Rattle.line.specs.Line.{arrayShare, securityShare, heard, landed, turnAt, play, unanswered, lineReply}
+use Rattle.bus.specs.declared.Bus.{Bus}
+use Rattle.bus.specs.declared.Stepped.{Stepped}
+use Rattle.bus.proofs.Typed.{OfItsType, every-chip, each-every}
+use Rattle.bus.specs.Step.{stepChecks, done, stepBy, played, step}
+use Rattle.promises.specs.Bytes.{HoldsBytes}
+
+-- an event word brings its low half
+abbrev Brings : Order → Type 0
+Brings order = EventByte (eventOf order)
+
+brings-a-byte : (word : ℕ) → Brings (orderOf word)
+unfolding orderOf
+brings-a-byte word =
+    either Brings (eqb (kindOf word) 1) _ _ tt
+    (either Brings (eqb (kindOf word) 2) _ _ tt
+    (either Brings (eqb (kindOf word) 3) _ _ (omega arith)
+    (either Brings (eqb (kindOf word) 4) _ _ tt
+    (either Brings (eqb (kindOf word) 5) _ _ tt
+    (either Brings (eqb (kindOf word) 6) _ _ tt
+    (either Brings (eqb (kindOf word) 7) _ _ tt tt))))))
+
+-- the line while the chips take their turns
+abbrev World : Type 0
+World = Played × List ℕ × List ℕ
+
+abbrev LineBytes : World → Type 0
+LineBytes world = Every ChipBytes (world .0 .chips) × SaidByte (world .0 .said) × AllBytes (world .1) × AllBytes (world .2)
+
+heard-byte : (before said : Said) → SaidByte before → SaidByte said → SaidByte (heard before said)
+heard-byte before Nothing was is = was
+heard-byte before Ack was is = tt
+heard-byte before (Byte byte) was is = is
+
+landed-bytes : (places : List Place) (i : ℕ) (world : World) (stepped : chip.Stepped × List ℕ × List ℕ) → LineBytes world → StepBytes stepped
+    → LineBytes (landed places i world stepped)
+landed-bytes places i world stepped (chips, said, array, security) (next, word, share, share′) = (
+  every-set ChipBytes (world .0 .chips) i (stepped .0 .chip) chips next,
+  heard-byte (world .0 .said) (stepped .0 .said) said word,
+  every-patched FitsByte (arrayStart places i) (stepped .1) (world .1) share array,
+  every-patched FitsByte (securityStart places i) (stepped .2) (world .2) share′ security,
+)
+
+turn-bytes : (order : Order) (places : List Place) → Brings order → (i : ℕ) (world : World) → LineBytes world → LineBytes (turnAt order places i world)
+turn-bytes order places brought i world now =
+    let c = chipAt (world .0 .chips) i in
+    let a = arrayShare places i (world .1) in
+    let s = securityShare places i (world .2) in
+    let in-chip : ChipBytes c = every-at ChipBytes (world .0 .chips) i noChip (now .0) (omega arith) in
+    let in-array : AllBytes a = every-span FitsByte (arrayStart places i) (figuresAt places i .array) (world .1) (now .2) in
+    let in-security : AllBytes s = every-span FitsByte (securityStart places i) (figuresAt places i .security) (world .2) (now .3) in
+    either LineBytes (reaches order i) _ world
+    (landed-bytes places i world (one-chip.step c a s (eventOf order)) now (bytes-stay-bytes c a s in-chip in-array in-security (eventOf order) brought))
+    now
+
+play-bytes : (order : Order) (bus : Bus) (array security : List ℕ) → Brings order → HoldsBytes bus array security
+    → LineBytes (play order (bus .count) (bus .chips) array security)
+unfolding play
+play-bytes order bus array security brought now =
+    up-keeps (turnAt order (placesOf (bus .chips))) LineBytes (turn-bytes order (placesOf (bus .chips)) brought) (placed (bus .count))
+    (record { chips = bus .chips; said = Nothing }, array, security)
+    (now .in-chips, tt, now .in-array, now .in-security)
+
+unanswered-byte : (event : Event) → FitsByte (unanswered event)
+unanswered-byte Start = omega arith
+unanswered-byte Stop = omega arith
+unanswered-byte (Sent byte) = omega arith
+unanswered-byte (Read nack) = omega arith
+unanswered-byte (Wp level) = omega arith
+unanswered-byte CycleOver = omega arith
+unanswered-byte PowerUp = omega arith
+
+reply-byte : (event : Event) (said : Said) → SaidByte said → FitsByte (lineReply event said)
+reply-byte event Nothing is = unanswered-byte event
+reply-byte event Ack is = omega arith
+reply-byte event (Byte byte) is = is
+
+-- a reply is a byte
+abbrev pub AnswerByte : Answer → Type 0
+AnswerByte (answer.Done reply) = FitsByte reply
+AnswerByte (answer.Refused refusal) = Unit {0}
+
+abbrev EndsInBytes : Stepped × List ℕ × List ℕ → Type 0
+EndsInBytes next = HoldsBytes (next .0 .bus) (next .1) (next .2) × AnswerByte (next .0 .answer)
+
+done-bytes : (event : Event) (count : ℕ) (world : World) → LineBytes world → EndsInBytes (done event count world)
+done-bytes event count world (chips, said, array, security) =
+    (record { in-chips = chips; in-array = array; in-security = security }, reply-byte event (world .0 .said) said)
+
+-- a value of the type `Bus` holds bytes, by the checker's relation: what a field of type `u8` denotes is below 256
+came-bytes : (came : Came) (vs : List Val) → Is cames.the-row came vs → AllBytes (bytesCame came)
+came-bytes Zero vs is = tt
+came-bytes (One first) vs is = let bytes = is .1 .1 .1 .1 in (bytes .0 .1, tt)
+came-bytes (Two first second) vs is = let bytes = is .1 .1 .1 .1 in (bytes .0 .1, (bytes .1 .0 .1, tt))
+came-bytes (Three first second third) vs is = let bytes = is .1 .1 .1 .1 in (bytes .0 .1, (bytes .1 .0 .1, (bytes .1 .1 .0 .1, tt)))
+came-bytes More vs is = tt
+
+data-bytes : (kind : Data) (vs : List Val) → Is datas.the-row kind vs → AllBytes (bytesTaken kind)
+data-bytes ToArray vs is = tt
+data-bytes ToSecurity vs is = tt
+data-bytes (ToConfiguration came) vs is = came-bytes came _ (is .1 .1 .1 .1 .0)
+data-bytes (ToLock some) vs is = tt
+data-bytes ToNowhere vs is = tt
+
+phase-bytes : (phase : Phase) (vs : List Val) → Is phases.the-row phase vs → AllBytes (bytesIn phase)
+phase-bytes Standby vs is = tt
+phase-bytes Busy vs is = tt
+phase-bytes AwaitsAddress vs is = tt
+phase-bytes AwaitsChoice vs is = tt
+phase-bytes (AwaitsWord word) vs is = tt
+phase-bytes (TakesData kind) vs is = data-bytes kind _ (is .1 .1 .1 .1 .0)
+phase-bytes (SendsByte source) vs is = tt
+
+chip-bytes : (c : Chip) (u : Val) → Is chips.the-row c (u ∷ []) → ChipBytes c
+chip-bytes c u is =
+    let control = is .1 .1 .0 .1 .1 in
+    ((control .1 .1 .1 .0 .1, (control .1 .1 .1 .1 .0 .1, phase-bytes (c .control .phase) _ (control .1 .1 .1 .1 .1 .1 .1 .1 .1 .1 .0))), each-every _ _ FitsByte (λ n v byte. byte .1) (c .load .values) _ (is .1 .1 .1 .0 .1 .1 .1 .0 .1 .1))
+
+pub typed-holds-bytes : (bus : Bus) (array security : List ℕ) → OfItsType bus → AllBytes array → AllBytes security → HoldsBytes bus array security
+typed-holds-bytes bus array security typed in-array in-security =
+    record { in-chips = every-chip ChipBytes chip-bytes typed; in-array = in-array; in-security = in-security }
+
+module _ (bus : Bus) (array security : List ℕ) (word : ℕ) (now : HoldsBytes bus array security) where
+  ends-in-bytes : (verdict : Verdict) → EndsInBytes (stepBy verdict bus array security word)
+  unfolding played
+  ends-in-bytes Passed =
+      done-bytes (eventOf (orderOf word)) (bus .count) (play (orderOf word) (bus .count) (bus .chips) array security)
+      (play-bytes (orderOf word) bus array security (brings-a-byte word) now)
+  ends-in-bytes (Refused refusal) = (now, tt)
+
+  pub every-step-keeps-bytes : let next = step bus array security word in HoldsBytes (next .0 .bus) (next .1) (next .2)
+  unfolding step
+  every-step-keeps-bytes = ends-in-bytes (firstOf (stepChecks bus array security word)) .0
+
+  pub replies-are-bytes : AnswerByte (step bus array security word .0 .answer)
+  unfolding step
+  replies-are-bytes = ends-in-bytes (firstOf (stepChecks bus array security word)) .1

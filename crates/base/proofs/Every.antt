@@ -2,8 +2,12 @@
 -- another of which it holds.
 use Prim.Native.Nat.{ℕ, zero, suc, _<_}
 use native.Mathlib.Nat.{not-suc-le-zero, le-of-suc-le-suc}
-use mathlib.Core.List.{List, [], _∷_, _++_}
+use mathlib.Core.List.{List, [], _∷_, _++_, map}
 use lib.ListN.{length, getD, take, drop, set}
+use mir.Val.{Val}
+use base.Fml.{Fml}
+use denote.Array.{each}
+use denote.Shadow.{shadow}
 use Rattle.base.specs.Store.{span, patched}
 use Rattle.base.specs.Every.{Every}
 
@@ -44,3 +48,10 @@ module _ {A : Type 0} (P : A → Type 0) where
   every-patched at values store new all =
       every-append (take at store) _ (every-take at store all)
       (every-append values _ new (every-drop (length values) (drop at store) (every-drop at store all)))
+
+-- by the relation that the checker has for an array: what is so of whatever it may hold is so of every element
+pub each-every : {X Y : Type 0} (into : X → Y) (f : Y → List Val → Fml) (P : X → Type 0) → ((x : X) (u : Val) → shadow (f (into x) (u ∷ [])) → P x)
+    → (xs : List X) (us : List Val) → shadow (each Y f (map into xs) us) → Every P xs
+each-every into f P so [] us all = tt
+each-every into f P so (x ∷ xs) [] all = absurd all
+each-every into f P so (x ∷ xs) (u ∷ us) all = (so x u (all .0), each-every into f P so xs us (all .1))

@@ -2,17 +2,14 @@
 -- places, each with a value of the type `Chip`, and so 256 marks in the load of each: an array's relation says its length.
 use Prim.Native.Nat.{ℕ, _<_}
 use native.Mathlib.Omega.{arith}
-use mathlib.Core.List.{List, [], _∷_, map}
+use mathlib.Core.List.{List, [], _∷_}
 use mathlib.Core.Path.{_≡_, _∙_, sym}
 use lib.ListN.{length, length-map}
 use mir.Val.{Val}
-use base.Fml.{Fml}
 use borrow.Author.Needs.{length-unmapped}
-use denote.Array.{each}
 use denote.Laws.{Is}
-use denote.Shadow.{shadow}
 use Rattle.base.specs.Every.{Every}
-use Rattle.base.proofs.Every.{every-below}
+use Rattle.base.proofs.Every.{every-below, each-every}
 use Rattle.chip.specs.declared.Chip.{Chip}
 use Rattle.chip.proofs.Chip as chips
 use Rattle.lineup.specs.Chips.{noChip, chipAt}
@@ -23,13 +20,6 @@ use Rattle.bus.proofs.Bus as buses
 pub record OfItsType (bus : Bus) : Type 0 where
   pub values : List Val
   pub is : Is buses.the-row bus values
-
--- what is so of whatever an array may hold is so of each of its elements
-pub each-every : {X Y : Type 0} (into : X → Y) (f : Y → List Val → Fml) (P : X → Type 0) → ((x : X) (u : Val) → shadow (f (into x) (u ∷ [])) → P x)
-    → (xs : List X) (us : List Val) → shadow (each Y f (map into xs) us) → Every P xs
-each-every into f P so [] us all = tt
-each-every into f P so (x ∷ xs) [] all = absurd all
-each-every into f P so (x ∷ xs) (u ∷ us) all = (so x u (all .0), each-every into f P so xs us (all .1))
 
 pub has-four : {bus : Bus} → OfItsType bus → length (bus .chips) ≡ 4
 has-four {bus} typed = sym (length-map (bus .chips) _) ∙ typed .is .1 .1 .1 .0 .1 .0 .1

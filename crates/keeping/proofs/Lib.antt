@@ -11,3 +11,4 @@ pub mod Readonly
 pub mod Registers
 pub mod Beside
 pub mod Bytes
+pub mod Typed

@@ -2,11 +2,10 @@
 -- a reply is a byte, so that a word says which refusal was given. A refused step leads nowhere, so all else is as if it had not been there.
 use Prim.Native.Nat.{ℕ, suc, _+_, _*_, _<_}
 use native.Mathlib.Omega.{arith}
-use mathlib.Core.Bool.{Bool, true, false}
 use mathlib.Core.List.{List, [], _∷_, _++_}
 use mathlib.Core.Logic.{_↔_}
 use mathlib.Core.Path.{_≡_, _∙_, refl, sym, ap}
-use lib.ListN.{length, getD, take, drop, length-append, List·getD-append}
+use lib.ListN.{length, getD, take, length-append, List·getD-append}
 use lib.Seq.{take-append-seam, getD-append-add, getD-append-seam}
 use Rattle.base.specs.Every.{AllBytes}
 use Rattle.refusal.specs.declared.Verdict.{Verdict}
@@ -20,7 +19,7 @@ use Rattle.bus.specs.Step.{stepChecks, step}
 use Rattle.bus.specs.Run.{Tape, run}
 use Rattle.bus.proofs.Typed.{OfItsType}
 use Rattle.promises.specs.Bytes.{HoldsBytes}
-use Rattle.promises.specs.Playing.{World, Made, stepped, ledTo, afterOne, answerTo, after, answersTo}
+use Rattle.promises.specs.Playing.{World, stepped, ledTo, afterOne, answerTo, after, answersTo}
 use Rattle.promises.proofs.Bytes.{AnswerByte, typed-holds-bytes, every-step-keeps-bytes, replies-are-bytes}
 use Rattle.promises.proofs.Exactly.{step-exactly-when}
 use Rattle.promises.proofs.Playing.{answers-append, answers-length, answer-at, after-without, answers-without}

@@ -1,8 +1,8 @@
 -- Bytes stay bytes on the line, and every reply is a byte: a chip's shares are parts of the stores, its state and shares go back in their
 -- places, and the line carries what a chip said, or 00 or FF.
-use Prim.Native.Nat.{ℕ, _<_}
+use Prim.Native.Nat.{ℕ}
 use native.Mathlib.Omega.{arith}
-use mathlib.Core.List.{List, [], _∷_}
+use mathlib.Core.List.{List}
 use lib.Dec.{eqb}
 use Rattle.base.specs.Every.{Every, FitsByte, AllBytes}
 use Rattle.base.proofs.test.Laws.{either}
@@ -10,25 +10,13 @@ use Rattle.base.proofs.Fold.{up-keeps}
 use Rattle.base.proofs.Every.{every-at, every-set, every-span, every-patched}
 use Rattle.control.specs.declared.Said.{Said}
 use Rattle.control.specs.declared.Said.the-variants.{Nothing, Ack, Byte}
-use mir.Val.{Val}
-use denote.Laws.{Is}
-use Rattle.control.specs.declared.phase.Phase.{Phase}
-use Rattle.control.specs.declared.phase.Phase.the-variants.{Standby, Busy, AwaitsAddress, AwaitsChoice, AwaitsWord, TakesData, SendsByte}
-use Rattle.control.specs.declared.phase.Data.{Data}
-use Rattle.control.specs.declared.phase.Data.the-variants.{ToArray, ToSecurity, ToConfiguration, ToLock, ToNowhere}
-use Rattle.control.specs.declared.phase.Came.{Came}
-use Rattle.control.specs.declared.phase.Came.the-variants.{Zero, One, Two, Three, More}
-use Rattle.control.proofs.phase.Phase as phases
-use Rattle.control.proofs.phase.Data as datas
-use Rattle.control.proofs.phase.Came as cames
-use Rattle.chip.specs.declared.Chip.{Chip}
-use Rattle.chip.proofs.Chip as chips
 use Rattle.chip.specs.declared.Stepped as chip
 use Rattle.chip.specs.declared.event.Event.{Event}
 use Rattle.chip.specs.declared.event.Event.the-variants.{Start, Stop, Sent, Read, Wp, CycleOver, PowerUp}
 use Rattle.chip.specs.Chip as one-chip
-use Rattle.keeping.specs.Bytes.{bytesCame, bytesTaken, bytesIn, ChipBytes, SaidByte, EventByte, StepBytes}
+use Rattle.keeping.specs.Bytes.{ChipBytes, SaidByte, EventByte, StepBytes}
 use Rattle.keeping.proofs.Bytes.{bytes-stay-bytes}
+use Rattle.keeping.proofs.Typed.{chip-bytes}
 use Rattle.refusal.specs.declared.Verdict.{Verdict}
 use Rattle.refusal.specs.declared.Verdict.the-variants.{Passed, Refused}
 use Rattle.refusal.specs.declared.Answer.{Answer}
@@ -44,8 +32,8 @@ use Rattle.line.specs.declared.Played.{Played}
 use Rattle.line.specs.Line.{arrayShare, securityShare, heard, landed, turnAt, play, unanswered, lineReply}
 use Rattle.bus.specs.declared.Bus.{Bus}
 use Rattle.bus.specs.declared.Stepped.{Stepped}
-use Rattle.bus.proofs.Typed.{OfItsType, every-chip, each-every}
 use Rattle.bus.specs.Step.{stepChecks, done, stepBy, played, step}
+use Rattle.bus.proofs.Typed.{OfItsType, every-chip}
 use Rattle.promises.specs.Bytes.{HoldsBytes}
 
 -- an event word brings its low half
@@ -130,35 +118,7 @@ done-bytes : (event : Event) (count : ℕ) (world : World) → LineBytes world �
 done-bytes event count world (chips, said, array, security) =
     (record { in-chips = chips; in-array = array; in-security = security }, reply-byte event (world .0 .said) said)
 
--- a value of the type `Bus` holds bytes, by the checker's relation: what a field of type `u8` denotes is below 256
-came-bytes : (came : Came) (vs : List Val) → Is cames.the-row came vs → AllBytes (bytesCame came)
-came-bytes Zero vs is = tt
-came-bytes (One first) vs is = let bytes = is .1 .1 .1 .1 in (bytes .0 .1, tt)
-came-bytes (Two first second) vs is = let bytes = is .1 .1 .1 .1 in (bytes .0 .1, (bytes .1 .0 .1, tt))
-came-bytes (Three first second third) vs is = let bytes = is .1 .1 .1 .1 in (bytes .0 .1, (bytes .1 .0 .1, (bytes .1 .1 .0 .1, tt)))
-came-bytes More vs is = tt
-
-data-bytes : (kind : Data) (vs : List Val) → Is datas.the-row kind vs → AllBytes (bytesTaken kind)
-data-bytes ToArray vs is = tt
-data-bytes ToSecurity vs is = tt
-data-bytes (ToConfiguration came) vs is = came-bytes came _ (is .1 .1 .1 .1 .0)
-data-bytes (ToLock some) vs is = tt
-data-bytes ToNowhere vs is = tt
-
-phase-bytes : (phase : Phase) (vs : List Val) → Is phases.the-row phase vs → AllBytes (bytesIn phase)
-phase-bytes Standby vs is = tt
-phase-bytes Busy vs is = tt
-phase-bytes AwaitsAddress vs is = tt
-phase-bytes AwaitsChoice vs is = tt
-phase-bytes (AwaitsWord word) vs is = tt
-phase-bytes (TakesData kind) vs is = data-bytes kind _ (is .1 .1 .1 .1 .0)
-phase-bytes (SendsByte source) vs is = tt
-
-chip-bytes : (c : Chip) (u : Val) → Is chips.the-row c (u ∷ []) → ChipBytes c
-chip-bytes c u is =
-    let control = is .1 .1 .0 .1 .1 in
-    ((control .1 .1 .1 .0 .1, (control .1 .1 .1 .1 .0 .1, phase-bytes (c .control .phase) _ (control .1 .1 .1 .1 .1 .1 .1 .1 .1 .1 .0))), each-every _ _ FitsByte (λ n v byte. byte .1) (c .load .values) _ (is .1 .1 .1 .0 .1 .1 .1 .0 .1 .1))
-
+-- a value of the type `Bus` holds bytes
 pub typed-holds-bytes : (bus : Bus) (array security : List ℕ) → OfItsType bus → AllBytes array → AllBytes security → HoldsBytes bus array security
 typed-holds-bytes bus array security typed in-array in-security =
     record { in-chips = every-chip ChipBytes chip-bytes typed; in-array = in-array; in-security = in-security }

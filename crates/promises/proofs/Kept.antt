@@ -34,8 +34,8 @@ use Rattle.lineup.specs.Wellformed.{wellFormed}
 use Rattle.line.specs.declared.Played.{Played}
 use Rattle.line.specs.Line.{play}
 use Rattle.bus.specs.declared.Bus.{Bus}
-use Rattle.bus.proofs.Typed.{OfItsType, has-four}
 use Rattle.bus.specs.Step.{entryChecks, eventChecks, stepBy, played, event}
+use Rattle.bus.proofs.Typed.{OfItsType, has-four}
 use Rattle.promises.specs.Own.{own}
 use Rattle.promises.proofs.Chips.{each-chip-takes-its-own, the-rest-stays, stores-keep-their-length, chips-stay-four}
 use Rattle.promises.proofs.Formed.{none-holds, Formed, formed-of, of-formed, Ready, ready-of, of-ready}

@@ -4,20 +4,17 @@ use Prim.Native.Nat.{ℕ}
 use mathlib.Core.Bool.{Bool, true, false, true≢false}
 use mathlib.Core.List.{List}
 use mathlib.Core.Path.{_≡_, refl, ap}
-use lib.ListN.{getD, set}
-use Rattle.base.specs.Word.{wordOf}
 use Rattle.refusal.specs.declared.Refusal.{Refusal}
 use Rattle.refusal.specs.declared.Verdict.{Verdict}
 use Rattle.refusal.specs.declared.Verdict.the-variants.{Passed, Refused}
 use Rattle.refusal.specs.declared.Answer.{Answer}
 use Rattle.refusal.specs.declared.Answer.the-variants as answer
-use Rattle.refusal.specs.Refusal.{numberOf}
 use Rattle.refusal.specs.Checks.{firstOf, isPassed}
 use Rattle.board.specs.declared.Place.{Place}
 use Rattle.bus.specs.declared.Bus.{Bus}
 use Rattle.bus.specs.Setup.{setUpChecks, empty, setUpBy, setUp}
-use Rattle.bus.specs.Step.{eventChecks, stepChecks, refused, played, stepBy, event, step}
-use Rattle.bus.specs.Run.{runChecks, Tape, noted, eventAt, runBy, run}
+use Rattle.bus.specs.Step.{stepChecks, refused, played, stepBy, step}
+use Rattle.bus.specs.Run.{runChecks, Tape, runBy, run}
 
 abbrev isDone : Answer → Bool
 isDone (answer.Done reply) = true
@@ -54,12 +51,3 @@ module _ (bus : Bus) (array security : List ℕ) where
       go : (verdict : Verdict) (tape : Tape) → runBy verdict events tape .0 ≡ Refused refusal → runBy verdict events tape ≡ (Refused refusal, tape)
       go Passed tape is = absurd (true≢false (ap isPassed is))
       go (Refused other) tape is = ap (λ (verdict : Verdict). (verdict, tape)) is
-
--- in a run, a refused event leaves all but its place in the answers
-pub refused-event-leaves-all-but-its-answer : (events : List ℕ) (i : ℕ) (tape : Tape) (refusal : Refusal)
-    → event (tape .0) (tape .1) (tape .2) (getD events i 0) .0 .answer ≡ answer.Refused refusal
-    → eventAt events i tape ≡ (tape .0, tape .1, tape .2, set (tape .3) i (wordOf (numberOf refusal) 0))
-unfolding event
-refused-event-leaves-all-but-its-answer events i tape refusal is =
-    let word = getD events i 0 in
-    ap (noted i (tape .3)) (refusal-leaves-all (tape .0) (tape .1) (tape .2) word refusal (firstOf (eventChecks (tape .0) word)) is)

@@ -30,7 +30,7 @@ use Rattle.lineup.specs.Chips.{noChip, chipAt, controlAt, placeOf, placesOf}
 use Rattle.lineup.specs.Wellformed.{wellFormed}
 use Rattle.bus.specs.Setup.{setUpChecks, emptyChip, empty, freshChips, freshBus, setUpBy, setUp}
 use Rattle.bus.specs.Step.{entryChecks}
-use Rattle.lineup.proofs.Filled.{filled-length, filled-at}
+use Rattle.lineup.proofs.Filled.{filled-at}
 use Rattle.promises.proofs.Formed.{none-holds, Formed, of-formed, right-lengths, Ready, of-ready}
 
 -- two boards whose places agree as far as the count goes
@@ -98,15 +98,6 @@ set-up-is-well-formed count board array security passed = go (firstOf (setUpChec
         → firstOf (entryChecks (setUpBy verdict count board .bus) array security) ≡ Passed
     go Passed is now = of-ready (freshBus count board) array security (fresh-ready count board array security is)
     go (Refused refusal) is now = absurd (false≢true (ap isPassed now))
-
--- whatever the verdict, the bus has four places
-pub set-up-has-four : (count : ℕ) (places : List Place) (array security : List ℕ) → length (setUp count places array security .bus .chips) ≡ 4
-unfolding setUp
-set-up-has-four count board array security = go (firstOf (setUpChecks count board array security))
-  where
-    go : (verdict : Verdict) → length (setUpBy verdict count board .bus .chips) ≡ 4
-    go Passed = filled-length (freshAt board) (replicate 4 emptyChip) (placed count)
-    go (Refused refusal) = refl
 
 pub empty-is-not-well-formed : wellFormed (empty .count) (empty .chips) ≡ false
 unfolding wellFormed boardVerdict

@@ -19,10 +19,8 @@ use Rattle.control.specs.declared.phase.Phase.the-variants.{Standby, Busy}
 use Rattle.control.specs.Control.{fresh, inPhase, wpAt}
 use Rattle.chip.specs.declared.Chip.{Chip}
 use Rattle.wellformed.specs.Wellformed as one-chip
-use Rattle.refusal.specs.declared.Verdict.the-variants.{Passed}
-use Rattle.refusal.specs.Checks.{firstOf}
 use Rattle.board.specs.Board.{boardVerdict}
-use Rattle.lineup.specs.Chips.{chipAt, placesOf}
+use Rattle.lineup.specs.Chips.{placesOf}
 use Rattle.lineup.specs.Wellformed.{wellFormed}
 use Rattle.bus.specs.declared.Bus.{Bus}
 use Rattle.bus.specs.Setup.{emptyChip}

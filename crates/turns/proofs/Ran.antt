@@ -8,7 +8,7 @@ use lib.ListN.{getD, take}
 use Rattle.refusal.specs.declared.Verdict.the-variants.{Passed}
 use Rattle.bus.specs.Step.{step}
 use Rattle.bus.proofs.Typed.{OfItsType}
-use Rattle.promises.specs.Playing.{World, after, answersTo}
+use Rattle.promises.specs.Playing.{World, answersTo}
 use Rattle.promises.proofs.Calls.{RunCall, left, left-typed, Plays, Returned, returned, world-typed}
 use Rattle.promises.proofs.Playing.{answers-length}
 use Rattle.turns.specs.Turn.{Turn}

@@ -11,8 +11,8 @@ use borrow.Author.Tests.{eqb-true, eqb-false}
 use Rattle.base.proofs.Fold.{and-left, and-right}
 use Rattle.lineup.specs.Chips.{chipAt, placesOf}
 use Rattle.bus.specs.Step.{step}
-use Rattle.promises.proofs.Playing.{after-append}
 use Rattle.promises.specs.Playing.{World, after, answersTo}
+use Rattle.promises.proofs.Playing.{after-append}
 use Rattle.turns.specs.Turn.{Turn, isTurn}
 use Rattle.turns.specs.Shuffle.{areTurns, eventsOf, turnsOf, answersOf, isExcepted}
 use Rattle.turns.specs.Alone.{alone, renamed, ownTurn, ownTurns}

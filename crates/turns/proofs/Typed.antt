@@ -4,7 +4,7 @@ use Prim.Native.Nat.{ℕ, zero, suc, _<_, _^_}
 use native.Mathlib.Omega.{arith}
 use mathlib.Core.Bool.{Bool, false}
 use mathlib.Core.List.{List, [], _∷_, map}
-use mathlib.Core.Path.{_≡_, refl}
+use mathlib.Core.Path.{refl}
 use lib.ListN.{replicate}
 use lib.Dec.{lit<}
 use mir.Syntax.{w8}
@@ -26,9 +26,7 @@ use Rattle.control.proofs.phase.Phase as phases
 use Rattle.chip.specs.declared.Chip.{Chip}
 use Rattle.chip.proofs.Chip as chips
 use Rattle.lineup.specs.Chips.{noChip, chipAt}
-use Rattle.bus.specs.declared.Bus.{Bus}
 use Rattle.bus.specs.Setup.{emptyChip}
-use Rattle.bus.proofs.Bus as buses
 use Rattle.bus.proofs.Entry.{entered}
 use Rattle.bus.proofs.Typed.{OfItsType, has-four, every-chip}
 use Rattle.promises.specs.Playing.{World}

@@ -1,4 +1,4 @@
-// Chips placed on a board: a word that names a place is PART:STRAP, a digit each, as 1:0 or 2:5 (docs/DECISIONS.md, B25).
+// Chips placed on a board: a word that names a place is PART:STRAP, a digit each, as 1:0 or 2:5 (docs/DECISIONS.md, D35).
 pub mod asked;
 
 use board::Place;

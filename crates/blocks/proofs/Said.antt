@@ -5,7 +5,7 @@ use native.Mathlib.Decide.{decLt}
 use native.Mathlib.Omega.{arith}
 use mathlib.Core.Bool.{Bool, true, false}
 use mathlib.Core.List.{List, _∷_, _++_}
-use mathlib.Core.Logic.{_↔_}
+use mathlib.Core.Logic.{_↔_, _⊎_}
 use mathlib.Core.Path.{_≡_, _∙_, refl, sym, ap}
 use lib.Dec.{ltb}
 use lib.ListN.{length, getD, take, drop, length-append}
@@ -24,7 +24,7 @@ use Rattle.print.specs.Print.{digitText, printed, closing}
 use Rattle.conversation.specs.declared.Heard.{Heard}
 use Rattle.conversation.specs.Talk.{Left, laidOn, converse}
 use Rattle.conversation.specs.Whole.{answerAll}
-use Rattle.blocks.specs.Lines.{TalkEnds, TalkPauses, WholeEnds, WholePauses, Spoken, unplayed, afterLines, WholeLeft, SaysNine}
+use Rattle.blocks.specs.Lines.{TalkEnds, WholeEnds, Spoken, unplayed, afterLines, WholeLeft, SaysNine}
 use Rattle.base.proofs.Store.{span-front}
 use Rattle.blocks.proofs.Nine.{told-apart, said-long, converse-ends, converse-pauses, talk-ends-or-pauses, answer-all-ends, answer-all-pauses, whole-ends-or-pauses}
 
@@ -100,38 +100,32 @@ module _ (text : List ℕ) (bus : Bus) (array security : List ℕ) where
         let front = span-front (k * 9) 9 all (drop (length all) buffer) (omega (arith, long k, length-append (after k .said) (closing 9))) in
         (k, omega arith, ap (span (k * 9) 9) laid ∙ front ∙ ap (take 9) (drop-at (after k .said) (closing 9) (k * 9) (long k)))
 
-    -- ---- a conversation
+    -- what ends in one of two ways says it exactly when it ends so
+    says-nine-when : {Ends Pauses : Type 0} (heard : Heard) (out : List ℕ) → Ends ⊎ Pauses
+        → (Ends → (k : ℕ) × (heard .written ≡ (k + 1) * 9) × (out ≡ laidOn buffer (after k .said ++ closing 9)))
+        → (Pauses → (k : ℕ) × (heard .written ≡ k * 9) × (out ≡ laidOn buffer (after k .said)))
+        → SaysNine heard out ↔ Ends
+    says-nine-when heard out one ends pauses =
+        told-apart one
+        (λ e. let (k, written, laid) = ends e in nine-said k heard out written laid)
+        (λ p. let (k, written, laid) = pauses p in none-said k heard out written laid)
+        (λ says never. never says)
+        .0
+
     abbrev talked : Left
     talked = converse text bus array security buffer
 
-    talk-ends-says : TalkEnds text buffer → SaysNine (talked .0) (talked .4)
-    talk-ends-says (k, bad, room) =
-        let left = converse-ends text bus array security buffer k bad room in
-        nine-said k (talked .0) (talked .4) (ap (λ (l : Left). l .0 .written) left) (ap (λ (l : Left). l .4) left)
-
-    talk-pauses-says : TalkPauses text buffer → SaysNine (talked .0) (talked .4) → ⊥
-    talk-pauses-says (k, lines, room, stop) =
-        let left = converse-pauses text bus array security buffer k lines room stop in
-        none-said k (talked .0) (talked .4) (ap (λ (l : Left). l .0 .written) left) (ap (λ (l : Left). l .4) left)
-
     pub converse-says-nine-exactly-when : SaysNine (talked .0) (talked .4) ↔ TalkEnds text buffer
     converse-says-nine-exactly-when =
-        told-apart (talk-ends-or-pauses text bus array security buffer) talk-ends-says talk-pauses-says (λ says never. never says) .0
+        says-nine-when (talked .0) (talked .4) (talk-ends-or-pauses text bus array security buffer)
+        (λ (k, bad, room). let left = converse-ends text bus array security buffer k bad room in (k, ap (λ (l : Left). l .0 .written) left, ap (λ (l : Left). l .4) left))
+        (λ (k, lines, room, stop). let left = converse-pauses text bus array security buffer k lines room stop in (k, ap (λ (l : Left). l .0 .written) left, ap (λ (l : Left). l .4) left))
 
-    -- ---- a whole transcript
     abbrev answered : WholeLeft
     answered = answerAll text bus array security buffer
 
-    whole-ends-says : WholeEnds text buffer → SaysNine (answered .0) (answered .3)
-    whole-ends-says (k, bad, room) =
-        let left = answer-all-ends text bus array security buffer k bad room in
-        nine-said k (answered .0) (answered .3) (ap (λ (l : WholeLeft). l .0 .written) left) (ap (λ (l : WholeLeft). l .3) left)
-
-    whole-pauses-says : WholePauses text buffer → SaysNine (answered .0) (answered .3) → ⊥
-    whole-pauses-says (k, lines, room, stop) =
-        let left = answer-all-pauses text bus array security buffer k lines room stop in
-        none-said k (answered .0) (answered .3) (ap (λ (l : WholeLeft). l .0 .written) left) (ap (λ (l : WholeLeft). l .3) left)
-
     pub answer-all-says-nine-exactly-when : SaysNine (answered .0) (answered .3) ↔ WholeEnds text buffer
     answer-all-says-nine-exactly-when =
-        told-apart (whole-ends-or-pauses text bus array security buffer) whole-ends-says whole-pauses-says (λ says never. never says) .0
+        says-nine-when (answered .0) (answered .3) (whole-ends-or-pauses text bus array security buffer)
+        (λ (k, bad, room). let left = answer-all-ends text bus array security buffer k bad room in (k, ap (λ (l : WholeLeft). l .0 .written) left, ap (λ (l : WholeLeft). l .3) left))
+        (λ (k, lines, room, stop). let left = answer-all-pauses text bus array security buffer k lines room stop in (k, ap (λ (l : WholeLeft). l .0 .written) left, ap (λ (l : WholeLeft). l .3) left))

@@ -203,7 +203,7 @@ impl Chip {
     }
 
     /// The byte after F8h, read bit ignored: the chip is chosen where it is named, and takes nothing before the next Start. Where it
-    /// is not named, a choice that it already has stays: this is no address byte, and only those drop one (D40).
+    /// is not named, a choice that it already has stays: of the bytes sent only an address byte drops one, and this is none (D40).
     fn take_selection(&mut self, byte: u8) -> bool {
         let named = self.named_by(byte, ARRAY_TYPE).is_some();
         self.chosen |= named;

@@ -2,6 +2,7 @@
 -- another of which it holds.
 use Prim.Native.Nat.{ℕ, zero, suc, _<_}
 use native.Mathlib.Nat.{not-suc-le-zero, le-of-suc-le-suc}
+use native.Mathlib.Omega.{arith}
 use mathlib.Core.List.{List, [], _∷_, _++_, map}
 use lib.ListN.{length, getD, take, drop, set}
 use mir.Val.{Val}
@@ -21,6 +22,16 @@ module _ {A : Type 0} (P : A → Type 0) where
   every-below [] i d all below = absurd (not-suc-le-zero below)
   every-below (x ∷ xs) zero d all below = all .0
   every-below (x ∷ xs) (suc i) d all below = every-below xs i d (all .1) (le-of-suc-le-suc below)
+
+  -- from what holds at each place
+  pub every-of : (xs : List A) (d : A) → ((i : ℕ) → i < length xs → P (getD xs i d)) → Every P xs
+  every-of [] d each = tt
+  every-of (x ∷ xs) d each = (each 0 (omega arith), every-of xs d (λ i below. each (suc i) (omega arith)))
+
+  -- and what follows from it
+  pub every-so : (Q : A → Type 0) → ((x : A) → P x → Q x) → (xs : List A) → Every P xs → Every Q xs
+  every-so Q so [] all = tt
+  every-so Q so (x ∷ xs) all = (so x (all .0), every-so Q so xs (all .1))
 
   pub every-set : (xs : List A) (i : ℕ) (a : A) → Every P xs → P a → Every P (set xs i a)
   every-set [] i a all new = tt
@@ -55,3 +66,9 @@ pub each-every : {X Y : Type 0} (into : X → Y) (f : Y → List Val → Fml) (P
 each-every into f P so [] us all = tt
 each-every into f P so (x ∷ xs) [] all = absurd all
 each-every into f P so (x ∷ xs) (u ∷ us) all = (so x u (all .0), each-every into f P so xs us (all .1))
+
+-- and the other way: an array whose elements are values, each of which is one that it may hold
+pub every-each : {X Y : Type 0} (into : X → Y) (f : Y → List Val → Fml) (P : X → Type 0) (value : (x : X) → P x → Val) → ((x : X) (p : P x) → shadow (f (into x) (value x p ∷ [])))
+    → (xs : List X) → Every P xs → (us : List Val) × shadow (each Y f (map into xs) us)
+every-each into f P value so [] all = ([], tt)
+every-each into f P value so (x ∷ xs) all = let (us, rest) = every-each into f P value so xs (all .1) in (value x (all .0) ∷ us, (so x (all .0), rest))

@@ -226,7 +226,14 @@ module _ (text : List ℕ) (bus : Bus) (array security : List ℕ) where
     pub converse-pauses-exactly-when : (talked .0 .over ≡ false) ↔ TalkPauses text buffer
     converse-pauses-exactly-when = converse-either .1
 
-    -- with room for an answer to every five bytes all lines are answered, and what is left may still become one
+    -- with room for an answer to every five bytes the room decides nothing: a malformed line ends it
+    pub converse-ends-with-room : length text ≤ roomIn buffer * 5 → (talked .0 .over ≡ true) ↔ ((k : ℕ) × MalformedAfter text k)
+    converse-ends-with-room enough = (
+      λ over. let (k, bad, room) = converse-ends-exactly-when .0 over in (k, bad),
+      λ (k, bad). converse-ends-exactly-when .1 (k, bad, omega (arith, bad .no-line .left)),
+    )
+
+    -- and if none does, all lines are answered, and what is left may still become one
     pub converse-answers-all : length text ≤ roomIn buffer * 5 → talked .0 .over ≡ false
         → (k : ℕ) × Lines text k × (unfinished text (k * 5) ≡ true) × (talked ≡ pausedAfter k (after k) buffer)
     converse-answers-all enough going = go (converse-pauses-exactly-when .0 going)
@@ -301,7 +308,14 @@ module _ (text : List ℕ) (bus : Bus) (array security : List ℕ) where
     pub answer-all-pauses-exactly-when : (answered .0 .over ≡ false) ↔ WholePauses text buffer
     answer-all-pauses-exactly-when = answer-all-either .1
 
-    -- with that room all lines are answered, and nothing is left
+    -- with that room anything that is no line ends it
+    pub answer-all-ends-with-room : length text ≤ roomIn buffer * 5 → (answered .0 .over ≡ true) ↔ ((k : ℕ) × NoLineAfter text k)
+    answer-all-ends-with-room enough = (
+      λ over. let (k, bad, room) = answer-all-ends-exactly-when .0 over in (k, bad),
+      λ (k, bad). answer-all-ends-exactly-when .1 (k, bad, omega (arith, bad .left)),
+    )
+
+    -- and if nothing does, all lines are answered, and nothing is left
     pub answer-all-answers-all : length text ≤ roomIn buffer * 5 → answered .0 .over ≡ false
         → (k : ℕ) × Lines text k × (k * 5 ≡ length text) × (answered ≡ withoutBus (pausedAfter k (after k) buffer))
     answer-all-answers-all enough going = go (answer-all-pauses-exactly-when .0 going)

@@ -1,17 +1,20 @@
--- A value of the type `Bus`, by the relation that the checker itself has between values and what they denote. Every such value has four
--- places, each with a value of the type `Chip`, and so 256 marks in the load of each: an array's relation says its length.
-use Prim.Native.Nat.{ℕ, _<_}
+-- A value of the type `Bus`, by the relation that the checker itself has between values and what they denote: its count fits, it has four
+-- places, and each holds a value of the type `Chip`; so there are 256 marks in the load of each.
+use Prim.Native.Nat.{ℕ, _<_, _^_}
 use native.Mathlib.Omega.{arith}
-use mathlib.Core.List.{List, [], _∷_}
-use mathlib.Core.Path.{_≡_, _∙_, sym}
+use mathlib.Core.List.{List}
+use mathlib.Core.Path.{_≡_, _∙_, refl, sym}
 use lib.ListN.{length, length-map}
 use mir.Val.{Val}
 use borrow.Author.Needs.{length-unmapped}
 use denote.Laws.{Is}
+use denote.Struct.Declared.{shape}
+use denote.Struct.Struct.{Struct}
 use Rattle.base.specs.Every.{Every}
-use Rattle.base.proofs.Every.{every-below, each-every}
+use Rattle.base.proofs.Every.{every-below, each-every, every-each}
 use Rattle.chip.specs.declared.Chip.{Chip}
-use Rattle.chip.proofs.Chip as chips
+use Rattle.chip.proofs.Chip as chip-rows
+use Rattle.chip.proofs.Typed.{ChipTyped}
 use Rattle.lineup.specs.Chips.{noChip, chipAt}
 use Rattle.bus.specs.declared.Bus.{Bus}
 use Rattle.bus.proofs.Bus as buses
@@ -21,18 +24,24 @@ pub record OfItsType (bus : Bus) : Type 0 where
   pub values : List Val
   pub is : Is buses.the-row bus values
 
+pub count-fits : {bus : Bus} → OfItsType bus → bus .count < 2 ^ 64
+count-fits typed = typed .is .1 .1 .0 .1
+
 pub has-four : {bus : Bus} → OfItsType bus → length (bus .chips) ≡ 4
 has-four {bus} typed = sym (length-map (bus .chips) _) ∙ typed .is .1 .1 .1 .0 .1 .0 .1
 
-pub every-chip : {bus : Bus} (P : Chip → Type 0) → ((c : Chip) (u : Val) → Is chips.the-row c (u ∷ []) → P c) → OfItsType bus → Every P (bus .chips)
-every-chip {bus} P so typed = each-every _ _ P so (bus .chips) _ (typed .is .1 .1 .1 .0 .1 .1)
+pub every-typed : {bus : Bus} → OfItsType bus → Every ChipTyped (bus .chips)
+every-typed {bus} typed = each-every _ _ ChipTyped (λ c u is. record { value = u; is = is }) (bus .chips) _ (typed .is .1 .1 .1 .0 .1 .1)
 
--- what is asked of a bus where its definitions alone speak of it
-pub record Whole (bus : Bus) : Type 0 where
-  pub four : length (bus .chips) ≡ 4
-  pub marks : (i : ℕ) → i < 4 → length (chipAt (bus .chips) i .load .marks) ≡ 256
+-- and nothing else is asked of it
+pub bus-typed : (count : ℕ) (chips : List Chip) → count < 2 ^ 64 → length chips ≡ 4 → Every ChipTyped chips → OfItsType (record { count = count; chips = chips })
+bus-typed count chips fits four typed =
+    let made = every-each (chip-rows.the-type .to) (Struct (shape chip-rows.the-type) .own) ChipTyped (λ c t. t .value) (λ c t. t .is) chips typed in
+    record { values = _; is = ((_, (_, tt)), (refl, ((refl, fits), ((made .0, ((refl, length-map chips _ ∙ four), made .1)), tt)))) }
 
-pub whole : {bus : Bus} → OfItsType bus → Whole bus
-whole {bus} typed =
-    let marked = every-chip (λ (c : Chip). length (c .load .marks) ≡ 256) (λ c u is. length-unmapped _ (c .load .marks) 256 (is .1 .1 .1 .0 .1 .1 .0 .1 .0 .1)) typed in
-    record { four = has-four typed; marks = λ i below. every-below _ (bus .chips) i noChip marked (omega (arith, has-four typed)) }
+-- one of its chips
+pub chip-typed : {bus : Bus} → OfItsType bus → (i : ℕ) → i < 4 → ChipTyped (chipAt (bus .chips) i)
+chip-typed {bus} typed i below = every-below ChipTyped (bus .chips) i noChip (every-typed typed) (omega (arith, has-four typed))
+
+pub has-marks : {bus : Bus} → OfItsType bus → (i : ℕ) → i < 4 → length (chipAt (bus .chips) i .load .marks) ≡ 256
+has-marks {bus} typed i below = length-unmapped _ (chipAt (bus .chips) i .load .marks) 256 (chip-typed typed i below .is .1 .1 .1 .0 .1 .1 .0 .1 .0 .1)

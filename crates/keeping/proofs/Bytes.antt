@@ -2,7 +2,7 @@
 -- bytes, or FF.
 use Prim.Native.Nat.{ℕ, _*_}
 use native.Mathlib.Omega.{arith}
-use mathlib.Core.Bool.{Bool, not, _&&_}
+use mathlib.Core.Bool.{Bool, cond, not, _&&_}
 use mathlib.Core.List.{List, [], _∷_}
 use lib.Dec.{eqb}
 use Rattle.base.specs.Every.{FitsByte, AllBytes}
@@ -13,7 +13,7 @@ use Rattle.parts.specs.declared.part.Geometry.{Geometry}
 use Rattle.parts.specs.Part.{geometry24CSM01, geometry24CS32, geometryOf}
 use Rattle.regions.specs.Page.{pageOf}
 use Rattle.load.specs.declared.Load.{Load}
-use Rattle.load.specs.Load.{emptied, isMarked, storePlace, storePage}
+use Rattle.load.specs.Load.{isMarked, storePlace, storePage}
 use Rattle.control.specs.declared.Control.{Control}
 use Rattle.control.specs.declared.Answered.{Answered}
 use Rattle.control.specs.declared.phase.Phase.{Phase}
@@ -35,7 +35,7 @@ use Rattle.addressing.specs.Address.{callOf, takeCall, takeAddress, takeChosen,
 use Rattle.words.specs.declared.Register.{Register}
 use Rattle.words.specs.declared.Register.the-variants.{Security, Configuration, Lock, Nowhere}
 use Rattle.words.specs.Word.{registerOf, isLock, takeNamed, takeWord}
-use Rattle.taking.specs.Taking.{cameMore, takeData, takeIn, take, loadedData, loadedIn, loaded}
+use Rattle.taking.specs.Taking.{cameMore, takeData, takeIn, take}
 use Rattle.sending.specs.Sending.{noByte, byteFrom, movedPast, readIn, read}
 use Rattle.configuration.specs.Configuration.{confirms, stopConfiguration}
 use Rattle.cycle.specs.Stop.{writesArray, writesSecurity, stopData, stopIn, stop}
@@ -44,6 +44,7 @@ use Rattle.chip.specs.declared.event.Event.{Event}
 use Rattle.chip.specs.declared.event.Event.the-variants.{Start, Stop, Sent, Read, Wp, CycleOver, PowerUp}
 use Rattle.chip.specs.Chip as chip
 use Rattle.keeping.specs.Bytes.{bytesCame, bytesIn, ControlBytes, ChipBytes, SaidByte, EventByte, StepBytes}
+use Rattle.keeping.proofs.Loads.{load-keeps}
 use Rattle.keeping.proofs.Shares.{shares-keep}
 
 -- what a chip makes of a byte sent or read
@@ -61,7 +62,7 @@ more-came (Two first second) byte held sent = (held .0, (held .1 .0, (sent, tt))
 more-came (Three first second third) byte held sent = tt
 more-came More byte held sent = tt
 
--- a byte sent: only the configuration register's are kept outside of the load
+-- a byte sent: outside of the load only a word address's first and the configuration register's are kept
 module _ (c : Control) (byte : ℕ) (now : ControlBytes c) (sent : FitsByte byte) where
   plain : AllBytes (c .config0 ∷ c .config1 ∷ []) × Unit {0}
   plain = (rests c now, tt)
@@ -90,10 +91,14 @@ module _ (c : Control) (byte : ℕ) (now : ControlBytes c) (sent : FitsByte byte
   to-named first Lock = either Answers (c .locked) _ _ plain plain
   to-named first Nowhere = plain
 
+  -- the first byte of a word address is kept
+  first-kept : AllBytes (c .config0 ∷ c .config1 ∷ byte ∷ []) × Unit {0}
+  first-kept = ((now .0, (now .1 .0, (sent, tt))), tt)
+
   to-word : (word : Word) → Answers (takeWord word c byte)
-  to-word (ArrayFirst a16) = plain
+  to-word (ArrayFirst a16) = first-kept
   to-word (ArraySecond a16 first) = plain
-  to-word RegisterFirst = either Answers (c .locked && isLock (registerOf byte)) _ _ plain plain
+  to-word RegisterFirst = either Answers (c .locked && isLock (registerOf byte)) _ _ plain first-kept
   to-word (RegisterSecond first) = to-named first (registerOf first)
 
   to-data : (kind : Data) → AllBytes (bytesIn (TakesData kind)) → Answers (takeData kind c byte)
@@ -113,37 +118,12 @@ module _ (c : Control) (byte : ℕ) (now : ControlBytes c) (sent : FitsByte byte
   take-bytes (TakesData kind) held = to-data kind held
   take-bytes (SendsByte source) held = (now, tt)
 
--- its load
-module _ (c : Control) (load : Load) (byte : ℕ) (held : AllBytes (load .values)) (sent : FitsByte byte) where
-  loaded-data : (kind : Data) → AllBytes (loadedData kind load c byte .values)
-  loaded-data ToArray = every-set FitsByte (load .values) _ byte held sent
-  loaded-data ToSecurity = every-set FitsByte (load .values) _ byte held sent
-  loaded-data (ToConfiguration came) = held
-  loaded-data (ToLock some) = either (λ (x : Load). AllBytes (x .values)) (c .locked) (emptied load) load held held
-  loaded-data ToNowhere = held
-
-  loaded-bytes : (phase : Phase) → AllBytes (loadedIn phase load c byte .values)
-  loaded-bytes Standby = held
-  loaded-bytes Busy = held
-  loaded-bytes AwaitsAddress = held
-  loaded-bytes AwaitsChoice = held
-  loaded-bytes (AwaitsWord word) = held
-  loaded-bytes (TakesData kind) = loaded-data kind
-  loaded-bytes (SendsByte source) = held
-
 -- a byte read
 id-bytes : (part : ℕ) → AllBytes (geometryOf part .id)
 unfolding geometryOf
 id-bytes part = either (λ (g : Geometry). AllBytes (g .id)) (eqb part 1) geometry24CSM01 geometry24CS32 (omega arith) (omega arith)
 
-module _ (c : Control) (array security : List ℕ) (now : ControlBytes c) (in-array : AllBytes array) (in-security : AllBytes security) where
-  byte-from : (source : Source) → FitsByte (byteFrom source c array security)
-  byte-from FromArray = every-at FitsByte array (c .array) noByte in-array (omega arith)
-  byte-from FromSecurity = every-at FitsByte security (c .security) noByte in-security (omega arith)
-  byte-from (FromConfiguration second) = either FitsByte second (c .config1) (c .config0) (now .1 .0) (now .0)
-  byte-from (FromId place) = every-at FitsByte (geometryOf (c .part) .id) place noByte (id-bytes (c .part)) (omega arith)
-  byte-from FromNothing = omega arith
-
+module _ (c : Control) (array security : List ℕ) (now : ControlBytes c) where
   moved-bytes : (source : Source) → ControlBytes (movedPast source c)
   moved-bytes FromArray = now
   moved-bytes FromSecurity = now
@@ -151,16 +131,34 @@ module _ (c : Control) (array security : List ℕ) (now : ControlBytes c) (in-ar
   moved-bytes (FromId place) = rests c now
   moved-bytes FromNothing = now
 
-  read-bytes : (phase : Phase) (nack : Bool) → Answers (readIn phase c array security nack)
-  read-bytes Standby nack = (now, tt)
-  read-bytes Busy nack = (now, tt)
-  read-bytes AwaitsAddress nack = (now, tt)
-  read-bytes AwaitsChoice nack = (now, tt)
-  read-bytes (AwaitsWord word) nack = (now, tt)
-  read-bytes (TakesData kind) nack = (now, tt)
+  read-bytes : (phase : Phase) (nack : Bool) → ControlBytes (readIn phase c array security nack .control)
+  read-bytes Standby nack = now
+  read-bytes Busy nack = now
+  read-bytes AwaitsAddress nack = now
+  read-bytes AwaitsChoice nack = now
+  read-bytes (AwaitsWord word) nack = now
+  read-bytes (TakesData kind) nack = now
   read-bytes (SendsByte source) nack =
       let moved = moved-bytes source in
-      (either ControlBytes nack (inPhase Standby (movedPast source c)) (movedPast source c) (rests (movedPast source c) moved) moved, byte-from source)
+      either ControlBytes nack (inPhase Standby (movedPast source c)) (movedPast source c) (rests (movedPast source c) moved) moved
+
+  -- what is sent is a byte where the shares hold bytes
+  module _ (in-array : AllBytes array) (in-security : AllBytes security) where
+    byte-from : (source : Source) → FitsByte (byteFrom source c array security)
+    byte-from FromArray = every-at FitsByte array (c .array) noByte in-array (omega arith)
+    byte-from FromSecurity = every-at FitsByte security (c .security) noByte in-security (omega arith)
+    byte-from (FromConfiguration second) = either FitsByte second (c .config1) (c .config0) (now .1 .0) (now .0)
+    byte-from (FromId place) = every-at FitsByte (geometryOf (c .part) .id) place noByte (id-bytes (c .part)) (omega arith)
+    byte-from FromNothing = omega arith
+
+    read-says : (phase : Phase) (nack : Bool) → SaidByte (readIn phase c array security nack .said)
+    read-says Standby nack = tt
+    read-says Busy nack = tt
+    read-says AwaitsAddress nack = tt
+    read-says AwaitsChoice nack = tt
+    read-says (AwaitsWord word) nack = tt
+    read-says (TakesData kind) nack = tt
+    read-says (SendsByte source) nack = byte-from source
 
 -- Stop
 page-stored : (g : Geometry) (at : ℕ) (load : Load) (store : List ℕ) → AllBytes (load .values) → AllBytes store → AllBytes (storePage g at load store)
@@ -174,32 +172,32 @@ page-stored g at load store in-load in-store =
     in-store
 
 module _ (c : Control) (load : Load) (array security : List ℕ) (now : ControlBytes c) where
-  idle : AllBytes (c .config0 ∷ c .config1 ∷ [])
-  idle = rests c now
+  over : AllBytes (c .config0 ∷ c .config1 ∷ [])
+  over = rests c now
 
   configured-bytes : (came : Came) → AllBytes (bytesCame came) → ControlBytes (stopConfiguration came c)
-  configured-bytes Zero held = idle
-  configured-bytes (One first) held = idle
-  configured-bytes (Two first second) held = idle
+  configured-bytes Zero held = over
+  configured-bytes (One first) held = over
+  configured-bytes (Two first second) held = over
   configured-bytes (Three first second third) held =
-      either ControlBytes (confirms first third && not (lock c)) _ _ (omega arith, (held .1 .0, tt)) idle
-  configured-bytes More held = idle
+      either ControlBytes (confirms first third && not (lock c)) _ _ (omega arith, (held .1 .0, tt)) over
+  configured-bytes More held = over
 
   data-stopped : (kind : Data) → AllBytes (bytesIn (TakesData kind)) → ControlBytes (stopData kind c load array security .0)
-  data-stopped ToArray held = either (λ (x : Control × List ℕ). ControlBytes (x .0)) (writesArray c load) _ _ idle idle
-  data-stopped ToSecurity held = either (λ (x : Control × List ℕ). ControlBytes (x .0)) (writesSecurity c load) _ _ idle idle
+  data-stopped ToArray held = either (λ (x : Control × List ℕ). ControlBytes (x .0)) (writesArray c load) _ _ over over
+  data-stopped ToSecurity held = either (λ (x : Control × List ℕ). ControlBytes (x .0)) (writesSecurity c load) _ _ over over
   data-stopped (ToConfiguration came) held = configured-bytes came held
-  data-stopped (ToLock some) held = either ControlBytes (some && not (c .locked)) _ _ idle idle
-  data-stopped ToNowhere held = idle
+  data-stopped (ToLock some) held = either ControlBytes (some && not (c .locked)) _ _ over over
+  data-stopped ToNowhere held = over
 
   stop-bytes : (phase : Phase) → AllBytes (bytesIn phase) → ControlBytes (stopIn phase c load array security .0)
-  stop-bytes Standby held = idle
+  stop-bytes Standby held = over
   stop-bytes Busy held = now
-  stop-bytes AwaitsAddress held = idle
-  stop-bytes AwaitsChoice held = idle
-  stop-bytes (AwaitsWord word) held = idle
+  stop-bytes AwaitsAddress held = over
+  stop-bytes AwaitsChoice held = over
+  stop-bytes (AwaitsWord word) held = over
   stop-bytes (TakesData kind) held = data-stopped kind held
-  stop-bytes (SendsByte source) held = idle
+  stop-bytes (SendsByte source) held = over
 
 -- both shares
 abbrev Shares : List ℕ → List ℕ → Type 0
@@ -215,40 +213,52 @@ module _ (c : Control) (load : Load) (array security : List ℕ) (in-load : AllB
   shares-stopped (ToLock some) = (in-array, in-security)
   shares-stopped ToNowhere = (in-array, in-security)
 
-module _ (c : Chip) (array security : List ℕ) (now : ChipBytes c) (in-array : AllBytes array) (in-security : AllBytes security) where
-  start-bytes : ChipBytes (chip.start c)
-  start-bytes = either ChipBytes (isBusy (c .control .phase)) c _ now (rests (c .control) (now .0), now .1)
+module _ (c : Chip) (array security : List ℕ) (now : ChipBytes c) where
+  in-load : (event : Event) → EventByte event → AllBytes (chip.step c array security event .0 .chip .load .values)
+  in-load =
+      load-keeps c array security (λ (held : Load). AllBytes (held .values)) (now .1) (now .1)
+      (λ at byte sent. every-set FitsByte (c .load .values) _ byte (now .1) sent)
 
-  stopped-bytes : ChipBytes (chip.stop c array security .0)
+  stopped-bytes : ControlBytes (chip.stop c array security .0 .control)
   unfolding stop
   stopped-bytes =
-      either (λ (x : Chip × List ℕ × List ℕ). ChipBytes (x .0)) (isBusy (c .control .phase)) (c, array, security) _ now
-      (stop-bytes (c .control) (c .load) array security (now .0) (c .control .phase) (now .0 .1 .1), now .1)
+      either (λ (x : Chip × List ℕ × List ℕ). ControlBytes (x .0 .control)) (isBusy (c .control .phase)) (c, array, security) _ (now .0)
+      (stop-bytes (c .control) (c .load) array security (now .0) (c .control .phase) (now .0 .1 .1))
 
-  over-bytes : ChipBytes (chip.cycleOver c)
-  over-bytes = either ChipBytes (isBusy (c .control .phase)) _ c (rests (c .control) (now .0), now .1) now
+  unless-busy : (x y : Chip) → ControlBytes (x .control) → ControlBytes (y .control) → ControlBytes (cond (isBusy (c .control .phase)) x y .control)
+  unless-busy x y = either (λ (d : Chip). ControlBytes (d .control)) (isBusy (c .control .phase)) x y
 
-  in-shares : (event : Event) → Shares (chip.step c array security event .1) (chip.step c array security event .2)
-  in-shares =
-      shares-keep c array security Shares (in-array, in-security)
-      (shares-stopped (c .control) (c .load) array security (now .1) in-array in-security)
+  in-control : (event : Event) → EventByte event → ControlBytes (chip.step c array security event .0 .chip .control)
+  unfolding chip.step take read
+  in-control Start brought = unless-busy c _ (now .0) (rests (c .control) (now .0))
+  in-control Stop brought = stopped-bytes
+  in-control (Sent byte) brought = take-bytes (c .control) byte (now .0) brought (c .control .phase) (now .0 .1 .1) .0
+  in-control (Read nack) brought = read-bytes (c .control) array security (now .0) (c .control .phase) nack
+  in-control (Wp level) brought = now .0
+  in-control CycleOver brought = unless-busy _ c (rests (c .control) (now .0)) (now .0)
+  in-control PowerUp brought = rests (c .control) (now .0)
 
-  in-chip : (event : Event) → EventByte event → ChipBytes (chip.step c array security event .0 .chip) × SaidByte (chip.step c array security event .0 .said)
-  unfolding chip.step take loaded read
-  in-chip Start brought = (start-bytes, tt)
-  in-chip Stop brought = (stopped-bytes, tt)
-  in-chip (Sent byte) brought =
-      let answer = take-bytes (c .control) byte (now .0) brought (c .control .phase) (now .0 .1 .1) in
-      ((answer .0, loaded-bytes (c .control) (c .load) byte (now .1) brought (c .control .phase)), answer .1)
-  in-chip (Read nack) brought =
-      let answer = read-bytes (c .control) array security (now .0) in-array in-security (c .control .phase) nack in
-      ((answer .0, now .1), answer .1)
-  in-chip (Wp level) brought = (now, tt)
-  in-chip CycleOver brought = (over-bytes, tt)
-  in-chip PowerUp brought = ((rests (c .control) (now .0), now .1), tt)
+  -- whatever the shares hold
+  pub chip-keeps-bytes : (event : Event) → EventByte event → ChipBytes (chip.step c array security event .0 .chip)
+  chip-keeps-bytes event brought = (in-control event brought, in-load event brought)
 
-  pub bytes-stay-bytes : (event : Event) → EventByte event → StepBytes (chip.step c array security event)
-  bytes-stay-bytes event brought =
-      let (chip, said) = in-chip event brought in
-      let (array, security) = in-shares event in
-      (chip, said, array, security)
+  module _ (in-array : AllBytes array) (in-security : AllBytes security) where
+    in-shares : (event : Event) → Shares (chip.step c array security event .1) (chip.step c array security event .2)
+    in-shares =
+        shares-keep c array security Shares (in-array, in-security)
+        (shares-stopped (c .control) (c .load) array security (now .1) in-array in-security)
+
+    in-said : (event : Event) → EventByte event → SaidByte (chip.step c array security event .0 .said)
+    unfolding chip.step take read
+    in-said Start brought = tt
+    in-said Stop brought = tt
+    in-said (Sent byte) brought = take-bytes (c .control) byte (now .0) brought (c .control .phase) (now .0 .1 .1) .1
+    in-said (Read nack) brought = read-says (c .control) array security (now .0) in-array in-security (c .control .phase) nack
+    in-said (Wp level) brought = tt
+    in-said CycleOver brought = tt
+    in-said PowerUp brought = tt
+
+    pub bytes-stay-bytes : (event : Event) → EventByte event → StepBytes (chip.step c array security event)
+    bytes-stay-bytes event brought =
+        let (array, security) = in-shares event in
+        (chip-keeps-bytes event brought, in-said event brought, array, security)

@@ -10,5 +10,6 @@ pub mod Lengths
 pub mod Readonly
 pub mod Registers
 pub mod Beside
+pub mod Loads
 pub mod Bytes
 pub mod Typed

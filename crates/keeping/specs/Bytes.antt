@@ -1,4 +1,4 @@
--- A chip that holds bytes: what it may be asked to store or to send is below 256. In the program its type says so.
+-- A chip that holds bytes: what it has from the host, and may be asked to store or to send, is below 256. In the program its type says so.
 use Prim.Native.Nat.{ℕ}
 use mathlib.Core.List.{List, [], _∷_}
 use Rattle.base.specs.Every.{FitsByte, AllBytes}
@@ -7,6 +7,8 @@ use Rattle.control.specs.declared.Said.{Said}
 use Rattle.control.specs.declared.Said.the-variants.{Nothing, Ack, Byte}
 use Rattle.control.specs.declared.phase.Phase.{Phase}
 use Rattle.control.specs.declared.phase.Phase.the-variants.{Standby, Busy, AwaitsAddress, AwaitsChoice, AwaitsWord, TakesData, SendsByte}
+use Rattle.control.specs.declared.phase.Word.{Word}
+use Rattle.control.specs.declared.phase.Word.the-variants.{ArrayFirst, ArraySecond, RegisterFirst, RegisterSecond}
 use Rattle.control.specs.declared.phase.Data.{Data}
 use Rattle.control.specs.declared.phase.Data.the-variants.{ToArray, ToSecurity, ToConfiguration, ToLock, ToNowhere}
 use Rattle.control.specs.declared.phase.Came.{Came}
@@ -31,16 +33,23 @@ bytesTaken (ToConfiguration came) = bytesCame came
 bytesTaken (ToLock some) = []
 bytesTaken ToNowhere = []
 
+-- the first byte of a word address, while the second is awaited
+abbrev pub bytesAwaiting : Word → List ℕ
+bytesAwaiting (ArrayFirst a16) = []
+bytesAwaiting (ArraySecond a16 first) = first ∷ []
+bytesAwaiting RegisterFirst = []
+bytesAwaiting (RegisterSecond first) = first ∷ []
+
 abbrev pub bytesIn : Phase → List ℕ
 bytesIn Standby = []
 bytesIn Busy = []
 bytesIn AwaitsAddress = []
 bytesIn AwaitsChoice = []
-bytesIn (AwaitsWord word) = []
+bytesIn (AwaitsWord word) = bytesAwaiting word
 bytesIn (TakesData kind) = bytesTaken kind
 bytesIn (SendsByte source) = []
 
--- both bytes of the configuration register, and what came for it
+-- both bytes of the configuration register, and those that the phase holds
 abbrev pub ControlBytes : Control → Type 0
 ControlBytes c = AllBytes (c .config0 ∷ c .config1 ∷ bytesIn (c .phase))
 

@@ -18,6 +18,7 @@ use Rattle.bus.specs.declared.Bus.{Bus}
 use Rattle.bus.specs.Step.{stepChecks, step}
 use Rattle.bus.specs.Run.{Tape, run}
 use Rattle.bus.proofs.Typed.{OfItsType}
+use Rattle.promises.specs.Answers.{ButForItsWord}
 use Rattle.promises.specs.Bytes.{HoldsBytes}
 use Rattle.promises.specs.Playing.{World, stepped, ledTo, afterOne, answerTo, after, answersTo}
 use Rattle.promises.proofs.Bytes.{AnswerByte, typed-holds-bytes, every-step-keeps-bytes, replies-are-bytes}
@@ -26,10 +27,14 @@ use Rattle.promises.proofs.Playing.{answers-append, answers-length, ans
 use Rattle.promises.proofs.Refused.{refused-step-leaves-all}
 use Rattle.promises.proofs.Runs.{run-is-its-steps}
 
--- a word is n times 256 exactly when its status is n
-word-says : (a : Answer) → AnswerByte a → (n : ℕ) → 0 < n → (answerWord a ≡ n * 256) ↔ (statusIn a ≡ n)
-word-says (answer.Done reply) byte n some = (λ is. absurd (omega (arith, is)), λ is. absurd (omega (arith, is)))
-word-says (answer.Refused refusal) byte n some = (λ is. omega (arith, is), λ is. omega (arith, is))
+-- a refusal is given as its number times 256, and no reply that is a byte looks like one
+refused-word : (a : Answer) (n : ℕ) → 0 < n → statusIn a ≡ n → answerWord a ≡ n * 256
+refused-word (answer.Done reply) n some is = absurd (omega (arith, is))
+refused-word (answer.Refused refusal) n some is = omega (arith, is)
+
+word-refused : (a : Answer) → AnswerByte a → (n : ℕ) → 0 < n → answerWord a ≡ n * 256 → statusIn a ≡ n
+word-refused (answer.Done reply) byte n some is = absurd (omega (arith, is))
+word-refused (answer.Refused refusal) byte n some is = omega (arith, is)
 
 after-bytes : (world : World) (events : List ℕ) → HoldsBytes (world .0) (world .1) (world .2)
     → let now = after step world events in HoldsBytes (now .0) (now .1) (now .2)
@@ -68,31 +73,13 @@ module _ (first later rest rest′ : List ℕ) (word : ℕ) where
       ∙ sym (getD-append-add first later i 0)
       ∙ sym (List·getD-append (first ++ later) rest′ 0 (length first + i) (omega (arith, length-append first later)))
 
--- a list with one event more, and without it: what the two runs leave
-pub record ButForItsWord (before rest : List ℕ) (with without : Tape) : Type 0 where
-  pub bus : with .0 ≡ without .0
-  pub array : with .1 ≡ without .1
-  pub security : with .2 ≡ without .2
-  pub answers-before : (i : ℕ) → i < length before → getD (with .3) i 0 ≡ getD (without .3) i 0
-  pub answers-behind : (i : ℕ) → i < length rest → getD (with .3) (length before + suc i) 0 ≡ getD (without .3) (length before + i) 0
-
-module _ (bus : Bus) (array security : List ℕ) (typed : OfItsType bus) (in-array : AllBytes array) (in-security : AllBytes security) where
+module _ (bus : Bus) (array security : List ℕ) (typed : OfItsType bus) where
   abbrev world : World
   world = (bus, array, security)
 
   -- the state that the events before event i have led to
-  abbrev pub reached : List ℕ → ℕ → World
+  abbrev reached : List ℕ → ℕ → World
   reached events i = after step (bus, array, security) (take i events)
-
-  held : (events : List ℕ) → let now = after step world events in HoldsBytes (now .0) (now .1) (now .2)
-  held events = after-bytes world events (typed-holds-bytes bus array security typed in-array in-security)
-
-  -- a word says which refusal was given there
-  says : (before : List ℕ) (word n : ℕ) → 0 < n
-      → let now = after step world before in (answerTo step now word ≡ n * 256) ↔ (statusIn (stepped step now word .0 .answer) ≡ n)
-  says before word n some =
-      let now : World = after step world before in
-      word-says (stepped step now word .0 .answer) (replies-are-bytes (now .0) (now .1) (now .2) word (held before)) n some
 
   module _ (events answers : List ℕ) (passes : run bus array security events answers .0 ≡ Passed) where
     word-is : (i : ℕ) → i < length events → getD (run bus array security events answers .1 .3) i 0 ≡ answerTo step (reached events i) (getD events i 0)
@@ -101,15 +88,17 @@ module _ (bus : Bus) (array security : List ℕ) (typed : OfItsType bus) (in-arr
         ∙ List·getD-append (answersTo step world events) _ 0 i (omega (arith, below, answers-length step world events))
         ∙ answer-at step world events i below
 
-    pub run-answers-exactly-when : (i : ℕ) → i < length events → (n : ℕ) → 0 < n
+    pub run-answers-exactly-when : AllBytes array → AllBytes security → (i : ℕ) → i < length events → (n : ℕ) → 0 < n
         → let now = reached events i in
         (getD (run bus array security events answers .1 .3) i 0 ≡ n * 256) ↔ Given (stepChecks (now .0) (now .1) (now .2) (getD events i 0)) n
-    run-answers-exactly-when i below n some =
+    run-answers-exactly-when in-array in-security i below n some =
         let now : World = reached events i in
         let word : ℕ = getD events i 0 in
-        let told = says (take i events) word n some in
+        let said : Answer = stepped step now word .0 .answer in
+        let held = after-bytes world (take i events) (typed-holds-bytes bus array security typed in-array in-security) in
+        let byte = replies-are-bytes (now .0) (now .1) (now .2) word held in
         let exactly = step-exactly-when (now .0) (now .1) (now .2) word n some in
-        (λ given. exactly .0 (told .0 (sym (word-is i below) ∙ given)), λ holds. word-is i below ∙ told .1 (exactly .1 holds))
+        (λ given. exactly .0 (word-refused said byte n some (sym (word-is i below) ∙ given)), λ holds. word-is i below ∙ refused-word said n some (exactly .1 holds))
 
   -- an event that a run refuses leaves everything but its word: a run of the list without it ends alike and answers alike
   module _ (before : List ℕ) (word : ℕ) (rest answers others : List ℕ) (passes : run bus array security (before ++ (word ∷ rest)) answers .0 ≡ Passed) (passes′ : run bus array security (before ++ rest) others .0 ≡ Passed) where
@@ -121,10 +110,13 @@ module _ (bus : Bus) (array security : List ℕ) (typed : OfItsType bus) (in-arr
         word-is (before ++ (word ∷ rest)) answers passes (length before) (omega (arith, length-append before (word ∷ rest)))
         ∙ rw (take-append-seam before (word ∷ rest), getD-append-seam before word rest 0)
 
-    pub refused-event-leaves-all-but-its-word : (n : ℕ) → 0 < n → getD (run bus array security (before ++ (word ∷ rest)) answers .1 .3) (length before) 0 ≡ n * 256
-        → ButForItsWord before rest (run bus array security (before ++ (word ∷ rest)) answers .1) (run bus array security (before ++ rest) others .1)
-    refused-event-leaves-all-but-its-word n some is =
-        let stays = refused-stays now word n some (says before word n some .0 (sym the-word ∙ is)) in
+    pub refused-event-leaves-all-but-its-word : (n : ℕ) → 0 < n
+        → let now = after step (bus, array, security) before in Given (stepChecks (now .0) (now .1) (now .2) word) n
+        → (getD (run bus array security (before ++ (word ∷ rest)) answers .1 .3) (length before) 0 ≡ n * 256)
+        × ButForItsWord before rest (run bus array security (before ++ (word ∷ rest)) answers .1) (run bus array security (before ++ rest) others .1)
+    refused-event-leaves-all-but-its-word n some given =
+        let status = step-exactly-when (now .0) (now .1) (now .2) word n some .1 given in
+        let stays = refused-stays now word n some status in
         let with = run-is-its-steps bus array security (before ++ (word ∷ rest)) answers typed passes in
         let without = run-is-its-steps bus array security (before ++ rest) others typed passes′ in
         let ends = after-without step world before word rest stays in
@@ -132,11 +124,13 @@ module _ (bus : Bus) (array security : List ℕ) (typed : OfItsType bus) (in-arr
         let later : List ℕ = answersTo step now rest in
         let long : length first ≡ length before = answers-length step world before in
         let words = answers-without step world before word rest stays in
-        let words′ = answers-append step world before rest in
-        record {
-          bus = ap (λ (ran : Verdict × Tape). ran .1 .0) with ∙ ap (λ (w : World). w .0) ends ∙ sym (ap (λ (ran : Verdict × Tape). ran .1 .0) without);
-          array = ap (λ (ran : Verdict × Tape). ran .1 .1) with ∙ ap (λ (w : World). w .1) ends ∙ sym (ap (λ (ran : Verdict × Tape). ran .1 .1) without);
-          security = ap (λ (ran : Verdict × Tape). ran .1 .2) with ∙ ap (λ (w : World). w .2) ends ∙ sym (ap (λ (ran : Verdict × Tape). ran .1 .2) without);
-          answers-before = λ i below. rw (with, without, words, words′) (same-before first later _ _ _ i (omega (arith, long, below)));
-          answers-behind = λ i below. rw (with, without, words, words′, sym long) (same-behind first later _ _ _ i (omega (arith, below, answers-length step now rest)));
-        }
+        let words′ = answers-append step world before rest in (
+          the-word ∙ refused-word (stepped step now word .0 .answer) n some status,
+          record {
+            bus = ap (λ (ran : Verdict × Tape). ran .1 .0) with ∙ ap (λ (w : World). w .0) ends ∙ sym (ap (λ (ran : Verdict × Tape). ran .1 .0) without);
+            array = ap (λ (ran : Verdict × Tape). ran .1 .1) with ∙ ap (λ (w : World). w .1) ends ∙ sym (ap (λ (ran : Verdict × Tape). ran .1 .1) without);
+            security = ap (λ (ran : Verdict × Tape). ran .1 .2) with ∙ ap (λ (w : World). w .2) ends ∙ sym (ap (λ (ran : Verdict × Tape). ran .1 .2) without);
+            answers-before = λ i below. rw (with, without, words, words′) (same-before first later _ _ _ i (omega (arith, long, below)));
+            answers-behind = λ i below. rw (with, without, words, words′, sym long) (same-behind first later _ _ _ i (omega (arith, below, answers-length step now rest)));
+          },
+        )

@@ -7,13 +7,14 @@ use lib.Dec.{eqb}
 use Rattle.base.specs.Every.{Every, FitsByte, AllBytes}
 use Rattle.base.proofs.test.Laws.{either}
 use Rattle.base.proofs.Fold.{up-keeps}
-use Rattle.base.proofs.Every.{every-at, every-set, every-span, every-patched}
+use Rattle.base.proofs.Every.{every-at, every-so, every-set, every-span, every-patched}
 use Rattle.control.specs.declared.Said.{Said}
 use Rattle.control.specs.declared.Said.the-variants.{Nothing, Ack, Byte}
 use Rattle.chip.specs.declared.Stepped as chip
 use Rattle.chip.specs.declared.event.Event.{Event}
 use Rattle.chip.specs.declared.event.Event.the-variants.{Start, Stop, Sent, Read, Wp, CycleOver, PowerUp}
 use Rattle.chip.specs.Chip as one-chip
+use Rattle.chip.proofs.Typed.{ChipTyped}
 use Rattle.keeping.specs.Bytes.{ChipBytes, SaidByte, EventByte, StepBytes}
 use Rattle.keeping.proofs.Bytes.{bytes-stay-bytes}
 use Rattle.keeping.proofs.Typed.{chip-bytes}
@@ -33,14 +34,14 @@ use Rattle.line.specs.Line.{arrayShare, securityShare, heard, landed, turnAt, p
 use Rattle.bus.specs.declared.Bus.{Bus}
 use Rattle.bus.specs.declared.Stepped.{Stepped}
 use Rattle.bus.specs.Step.{stepChecks, done, stepBy, played, step}
-use Rattle.bus.proofs.Typed.{OfItsType, every-chip}
+use Rattle.bus.proofs.Typed.{OfItsType, every-typed}
 use Rattle.promises.specs.Bytes.{HoldsBytes}
 
 -- an event word brings its low half
-abbrev Brings : Order → Type 0
+abbrev pub Brings : Order → Type 0
 Brings order = EventByte (eventOf order)
 
-brings-a-byte : (word : ℕ) → Brings (orderOf word)
+pub brings-a-byte : (word : ℕ) → Brings (orderOf word)
 unfolding orderOf
 brings-a-byte word =
     either Brings (eqb (kindOf word) 1) _ _ tt
@@ -52,10 +53,10 @@ brings-a-byte word =
     (either Brings (eqb (kindOf word) 7) _ _ tt tt))))))
 
 -- the line while the chips take their turns
-abbrev World : Type 0
-World = Played × List ℕ × List ℕ
+abbrev OnLine : Type 0
+OnLine = Played × List ℕ × List ℕ
 
-abbrev LineBytes : World → Type 0
+abbrev LineBytes : OnLine → Type 0
 LineBytes world = Every ChipBytes (world .0 .chips) × SaidByte (world .0 .said) × AllBytes (world .1) × AllBytes (world .2)
 
 heard-byte : (before said : Said) → SaidByte before → SaidByte said → SaidByte (heard before said)
@@ -63,7 +64,7 @@ heard-byte before Nothing was is = was
 heard-byte before Ack was is = tt
 heard-byte before (Byte byte) was is = is
 
-landed-bytes : (places : List Place) (i : ℕ) (world : World) (stepped : chip.Stepped × List ℕ × List ℕ) → LineBytes world → StepBytes stepped
+landed-bytes : (places : List Place) (i : ℕ) (world : OnLine) (stepped : chip.Stepped × List ℕ × List ℕ) → LineBytes world → StepBytes stepped
     → LineBytes (landed places i world stepped)
 landed-bytes places i world stepped (chips, said, array, security) (next, word, share, share′) = (
   every-set ChipBytes (world .0 .chips) i (stepped .0 .chip) chips next,
@@ -72,7 +73,7 @@ landed-bytes places i world stepped (chips, said, array, security) (next, word, 
   every-patched FitsByte (securityStart places i) (stepped .2) (world .2) share′ security,
 )
 
-turn-bytes : (order : Order) (places : List Place) → Brings order → (i : ℕ) (world : World) → LineBytes world → LineBytes (turnAt order places i world)
+turn-bytes : (order : Order) (places : List Place) → Brings order → (i : ℕ) (world : OnLine) → LineBytes world → LineBytes (turnAt order places i world)
 turn-bytes order places brought i world now =
     let c = chipAt (world .0 .chips) i in
     let a = arrayShare places i (world .1) in
@@ -114,14 +115,14 @@ AnswerByte (answer.Refused refusal) = Unit {0}
 abbrev EndsInBytes : Stepped × List ℕ × List ℕ → Type 0
 EndsInBytes next = HoldsBytes (next .0 .bus) (next .1) (next .2) × AnswerByte (next .0 .answer)
 
-done-bytes : (event : Event) (count : ℕ) (world : World) → LineBytes world → EndsInBytes (done event count world)
+done-bytes : (event : Event) (count : ℕ) (world : OnLine) → LineBytes world → EndsInBytes (done event count world)
 done-bytes event count world (chips, said, array, security) =
     (record { in-chips = chips; in-array = array; in-security = security }, reply-byte event (world .0 .said) said)
 
 -- a value of the type `Bus` holds bytes
 pub typed-holds-bytes : (bus : Bus) (array security : List ℕ) → OfItsType bus → AllBytes array → AllBytes security → HoldsBytes bus array security
 typed-holds-bytes bus array security typed in-array in-security =
-    record { in-chips = every-chip ChipBytes chip-bytes typed; in-array = in-array; in-security = in-security }
+    record { in-chips = every-so ChipTyped ChipBytes chip-bytes (bus .chips) (every-typed typed); in-array = in-array; in-security = in-security }
 
 module _ (bus : Bus) (array security : List ℕ) (word : ℕ) (now : HoldsBytes bus array security) where
   ends-in-bytes : (verdict : Verdict) → EndsInBytes (stepBy verdict bus array security word)

@@ -1,5 +1,6 @@
 -- What callers of `Bus::set_up`, `step` and `run` see, by the contracts alone: that a bus is a value of its type is nothing that a caller
--- is asked for, since a call is given such a value and hands one back.
+-- is asked for, since a call is given such a value and hands one back. Of what a lent slice holds a call says nothing, so where a word is read
+-- back out of the buffer the stores are asked to hold bytes.
 use Prim.Native.Nat.{ℕ, _*_, _<_, _≤_}
 use mathlib.Core.List.{List, _∷_, _++_}
 use mathlib.Core.Logic.{_↔_}
@@ -27,13 +28,13 @@ use Rattle.bus.proofs.Bus.step.Kinds as step-kinds
 use Rattle.bus.proofs.Bus.step.Reads as step-reads
 use Rattle.bus.proofs.Bus.run.Kinds as run-kinds
 use Rattle.bus.proofs.Bus.run.Reads as run-reads
+use Rattle.promises.specs.Answers.{ButForItsWord}
 use Rattle.promises.specs.Own.{own}
 use Rattle.promises.specs.Playing.{World, Made, after, answersTo}
-use Rattle.promises.proofs.Answers.{ButForItsWord, run-answers-exactly-when, refused-event-leaves-all-but-its-word}
+use Rattle.promises.proofs.Answers.{run-answers-exactly-when, refused-event-leaves-all-but-its-word}
 use Rattle.promises.proofs.Exactly.{step-says}
 use Rattle.promises.proofs.Steps.{step-is-each-chips-own}
-use Rattle.promises.proofs.Kept.{entry-kept}
-use Rattle.promises.proofs.Runs.{step-is-event, run-passes, run-is-its-steps, a-run-keeps-the-bus-well-formed}
+use Rattle.promises.proofs.Runs.{step-keeps, run-passes, run-is-its-steps, run-keeps-the-bus-well-formed}
 
 abbrev pub SetUpCall : Type 0
 SetUpCall = Call set-up-kinds.ps set-up-kinds.r set-up-reads.Post
@@ -89,8 +90,8 @@ module _ (call : StepCall) where
       → firstOf (entryChecks (made .0 .bus) (made .1) (made .2)) ≡ Passed
   a-step-keeps-the-bus-well-formed enters =
       subst (λ (m : Made). firstOf (entryChecks (m .0 .bus) (m .1) (m .2)) ≡ Passed)
-      (sym (call .ensured ∙ step-is-event (from .0) (from .1) (from .2) word enters))
-      (entry-kept (from .0) (from .1) (from .2) word from-typed enters)
+      (sym (call .ensured))
+      (step-keeps (from .0) (from .1) (from .2) word from-typed enters .enters)
 
 -- ---- a run
 module _ (call : RunCall) where
@@ -153,28 +154,28 @@ module _ (call : RunCall) (world : World) (events : List ℕ) (plays : Plays cal
         answers = ap (λ (ran : Verdict × Tape). ran .1 .3) is;
       }
 
-  pub a-run-keeps-the-bus-entering : firstOf (entryChecks (left call .0 .0) (left call .0 .1) (left call .0 .2)) ≡ Passed
-  a-run-keeps-the-bus-entering =
+  pub a-run-keeps-the-bus-well-formed : firstOf (entryChecks (left call .0 .0) (left call .0 .1) (left call .0 .2)) ≡ Passed
+  a-run-keeps-the-bus-well-formed =
       subst (λ (ran : Verdict × Tape). firstOf (entryChecks (ran .1 .0) (ran .1 .1) (ran .1 .2)) ≡ Passed) (sym as-run)
-      (a-run-keeps-the-bus-well-formed (world .0) (world .1) (world .2) events (bufferOf call) world-typed passes)
+      (run-keeps-the-bus-well-formed (world .0) (world .1) (world .2) events (bufferOf call) world-typed passes .0)
 
   -- "given exactly when", of the words that its caller finds in the buffer
-  pub words-exactly-when : AllBytes (world .1) → AllBytes (world .2) → (i : ℕ) → i < length events → (n : ℕ) → 0 < n
+  pub a-run-answers-exactly-when : AllBytes (world .1) → AllBytes (world .2) → (i : ℕ) → i < length events → (n : ℕ) → 0 < n
       → let now = after step world (take i events) in
       (getD (left call .1) i 0 ≡ n * 256) ↔ Given (stepChecks (now .0) (now .1) (now .2) (getD events i 0)) n
-  words-exactly-when in-array in-security i below n some =
+  a-run-answers-exactly-when in-array in-security i below n some =
       let there = ap (λ (ran : Verdict × Tape). getD (ran .1 .3) i 0) as-run in
-      let exactly = run-answers-exactly-when (world .0) (world .1) (world .2) world-typed in-array in-security events (bufferOf call) passes i below n some in
+      let exactly = run-answers-exactly-when (world .0) (world .1) (world .2) world-typed events (bufferOf call) passes in-array in-security i below n some in
       (λ word. exactly .0 (sym there ∙ word), λ holds. there ∙ exactly .1 holds)
 
 -- a call of a list with an event that it refuses, and a call of the list without it
-pub a-refused-event-leaves-all-but-its-word : (world : World) → firstOf (entryChecks (world .0) (world .1) (world .2)) ≡ Passed → AllBytes (world .1) → AllBytes (world .2)
+pub a-refused-event-leaves-all-but-its-word : (world : World) → firstOf (entryChecks (world .0) (world .1) (world .2)) ≡ Passed
     → (before : List ℕ) (word : ℕ) (rest : List ℕ) (one other : RunCall) → Plays one world (before ++ (word ∷ rest)) → Plays other world (before ++ rest)
-    → (n : ℕ) → 0 < n → getD (left one .1) (length before) 0 ≡ n * 256 → ButForItsWord before rest (leaves one) (leaves other)
-a-refused-event-leaves-all-but-its-word world enters in-array in-security before word rest one other plays plays′ n some is =
+    → (n : ℕ) → 0 < n → let now = after step world before in Given (stepChecks (now .0) (now .1) (now .2) word) n
+    → (getD (left one .1) (length before) 0 ≡ n * 256) × ButForItsWord before rest (leaves one) (leaves other)
+a-refused-event-leaves-all-but-its-word world enters before word rest one other plays plays′ n some given =
     let ran = as-run one world (before ++ (word ∷ rest)) plays enters in
     let ran′ = as-run other world (before ++ rest) plays′ enters in
-    subst₂ (λ (x y : Verdict × Tape). ButForItsWord before rest (x .1) (y .1)) (sym ran) (sym ran′)
-    (refused-event-leaves-all-but-its-word (world .0) (world .1) (world .2) (world-typed one world (before ++ (word ∷ rest)) plays enters) in-array in-security before word rest (bufferOf one) (bufferOf other)
-    (passes one world (before ++ (word ∷ rest)) plays enters) (passes other world (before ++ rest) plays′ enters) n some
-    (sym (ap (λ (x : Verdict × Tape). getD (x .1 .3) (length before) 0) ran) ∙ is))
+    subst₂ (λ (x y : Verdict × Tape). (getD (x .1 .3) (length before) 0 ≡ n * 256) × ButForItsWord before rest (x .1) (y .1)) (sym ran) (sym ran′)
+    (refused-event-leaves-all-but-its-word (world .0) (world .1) (world .2) (world-typed one world (before ++ (word ∷ rest)) plays enters) before word rest (bufferOf one) (bufferOf other)
+    (passes one world (before ++ (word ∷ rest)) plays enters) (passes other world (before ++ rest) plays′ enters) n some given)

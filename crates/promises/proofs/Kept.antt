@@ -1,22 +1,25 @@
--- Every event keeps a well-formed bus well formed: each chip keeps its place and stays well formed by itself, and two chips stay side by
+-- Every event keeps a well-formed bus well formed, and a value of its type: each chip keeps its place and stays well formed by itself, and two chips stay side by
 -- side, since an event reaches both, or it names one and moves it into no chip's way.
 use Prim.Native.Nat.{ℕ, _<_}
 use native.Mathlib.Decide.{decLt}
 use native.Mathlib.Omega.{arith}
 use mathlib.Core.Bool.{true, false}
 use mathlib.Core.List.{List}
-use mathlib.Core.Path.{_≡_, _∙_, refl, ap}
+use mathlib.Core.Path.{_≡_, _∙_, refl, sym, ap, subst}
 use lib.Dec.{eqb}
 use lib.ListN.{length, set, replicate}
 use Rattle.base.proofs.test.Laws.{either}
 use Rattle.base.proofs.Fold.{up-same, any-pair-none}
+use Rattle.base.proofs.Every.{every-of}
 use Rattle.chip.specs.declared.Chip.{Chip}
 use Rattle.chip.specs.declared.Stepped.{Stepped}
 use Rattle.chip.specs.declared.event.Event.{Event}
+use Rattle.chip.proofs.Typed.{ChipTyped}
 use Rattle.wellformed.specs.Wellformed as alone
 use Rattle.wellformed.specs.Beside.{sideBySide}
 use Rattle.keeping.proofs.Wellformed.{kept}
 use Rattle.keeping.proofs.Registers.{part-kept, strap-kept}
+use Rattle.keeping.proofs.Typed.{chip-typed-kept}
 use Rattle.keeping.proofs.Beside.{isNamed, named-kept, side-by-side-kept, beside-sym}
 use Rattle.refusal.specs.declared.Verdict.{Verdict}
 use Rattle.refusal.specs.declared.Verdict.the-variants.{Passed, Refused}
@@ -29,14 +32,16 @@ use Rattle.order.specs.declared.Order.{Order}
 use Rattle.order.specs.declared.Order.the-variants.{ToAll, ToOne}
 use Rattle.order.specs.Order.{kindOf, orderOf, reaches, eventOf}
 use Rattle.lineup.proofs.Laws.{place-at}
-use Rattle.lineup.specs.Chips.{chipAt, controlAt, placeOf, placesOf}
+use Rattle.lineup.specs.Chips.{noChip, chipAt, controlAt, placeOf, placesOf}
 use Rattle.lineup.specs.Wellformed.{wellFormed}
 use Rattle.line.specs.declared.Played.{Played}
 use Rattle.line.specs.Line.{play}
 use Rattle.bus.specs.declared.Bus.{Bus}
 use Rattle.bus.specs.Step.{entryChecks, eventChecks, stepBy, played, event}
-use Rattle.bus.proofs.Typed.{OfItsType, has-four}
+use Rattle.bus.proofs.Typed.{OfItsType, count-fits, has-four, bus-typed, chip-typed}
 use Rattle.promises.specs.Own.{own}
+use Rattle.promises.specs.Playing.{Made}
+use Rattle.promises.proofs.Bytes.{Brings, brings-a-byte}
 use Rattle.promises.proofs.Chips.{each-chip-takes-its-own, the-rest-stays, stores-keep-their-length, chips-stay-four}
 use Rattle.promises.proofs.Formed.{none-holds, Formed, formed-of, of-formed, Ready, ready-of, of-ready}
 
@@ -81,9 +86,9 @@ module _ (order : Order) (count : ℕ) (chips : List Chip) (array security : Lis
   place-kept i (no p) =
       ap (λ (c : Chip). placeOf (c .control)) (the-rest-stays order count chips array security four array-fits security-fits i (omega arith))
 
-  pub places-kept : placesOf after ≡ placesOf chips
+  pub places-stay : placesOf after ≡ placesOf chips
   unfolding placesOf
-  places-kept = up-same _ _ 4 (λ i places below. ap (set places i) (place-kept i (decLt i (placed count)))) (replicate 4 nowhere)
+  places-stay = up-same _ _ 4 (λ i places below. ap (set places i) (place-kept i (decLt i (placed count)))) (replicate 4 nowhere)
 
   -- an event that names a chip keeps every chip beside any other, whether it reaches it or not
   one-kept : (k : ℕ) (e : Event) → isNamed e ≡ true → (i : ℕ) (d : Chip) → sideBySide (controlAt chips i) (d .control) ≡ true
@@ -122,7 +127,7 @@ module _ (order : Order) (count : ℕ) (chips : List Chip) (array security : Lis
     formed-kept : Fair order → Formed count after
     formed-kept fair =
         record {
-          set-up = rw places-kept (formed .set-up);
+          set-up = rw places-stay (formed .set-up);
           fit = λ i below. rw (takes i below) (fit-now i below);
           apart = λ i j below before. rw (controlAt, takes i below, takes j (omega arith)) (apart-now order fair i j below before);
         }
@@ -130,30 +135,47 @@ module _ (order : Order) (count : ℕ) (chips : List Chip) (array security : Lis
     ready-kept : Fair order → Ready (record { count = count; chips = after }) (world .1) (world .2)
     ready-kept fair =
         let (array-long, security-long) = stores-keep-their-length order count chips array security four array-fits security-fits in
-        (of-formed count after (formed-kept fair), rw places-kept (array-long ∙ array-fits), rw places-kept (security-long ∙ security-fits))
+        (of-formed count after (formed-kept fair), rw places-stay (array-long ∙ array-fits), rw places-stay (security-long ∙ security-fits))
 
-pub well-formed-kept : (bus : Bus) (array security : List ℕ) (word : ℕ) → OfItsType bus
-    → length array ≡ arrayStart (placesOf (bus .chips)) (placed (bus .count))
-    → length security ≡ securityStart (placesOf (bus .chips)) (placed (bus .count))
-    → wellFormed (bus .count) (bus .chips) ≡ true
-    → wellFormed (bus .count) (play (orderOf word) (bus .count) (bus .chips) array security .0 .chips) ≡ true
-well-formed-kept bus array security word typed array-fits security-fits formed =
-    ready-kept (orderOf word) (bus .count) (bus .chips) array security (has-four typed) array-fits security-fits (formed-of (bus .count) (bus .chips) formed) (order-fair word) .0
+    -- and a value of its type, where it was one
+    typed-now : Brings order → ((i : ℕ) → i < 4 → ChipTyped (chipAt chips i)) → (i : ℕ) → i < 4 → ChipTyped (chipAt after i)
+    typed-now brought typed i below = go (decLt i (placed count))
+      where
+        go : Dec (i < placed count) → ChipTyped (chipAt after i)
+        go (yes p) =
+            subst ChipTyped (sym (takes i p))
+            (either (λ (x : Stepped × List ℕ × List ℕ). ChipTyped (x .0 .chip)) (reaches order i) _ _
+            (chip-typed-kept (chipAt chips i) _ _ (eventOf order) brought (formed .fit i p) (typed i below))
+            (typed i below))
+        go (no p) = subst ChipTyped (sym (the-rest-stays order count chips array security four array-fits security-fits i (omega arith))) (typed i below)
 
--- an event that is played keeps all of it, and one that is refused leaves everything
-pub entry-kept-by-four : (bus : Bus) (array security : List ℕ) (word : ℕ) → length (bus .chips) ≡ 4 → firstOf (entryChecks bus array security) ≡ Passed
-    → let next = event bus array security word in (firstOf (entryChecks (next .0 .bus) (next .1) (next .2)) ≡ Passed) × (length (next .0 .bus .chips) ≡ 4)
+-- what an event leaves: a bus that passes the checks at entry, of its type, with the same places and as many chips
+pub record Kept (bus : Bus) (next : Made) : Type 0 where
+  pub enters : firstOf (entryChecks (next .0 .bus) (next .1) (next .2)) ≡ Passed
+  pub typed : OfItsType (next .0 .bus)
+  pub places : placesOf (next .0 .bus .chips) ≡ placesOf (bus .chips)
+  pub count : next .0 .bus .count ≡ bus .count
+
+-- one that is played keeps all of it, and one that is refused leaves everything
+pub event-keeps : (bus : Bus) (array security : List ℕ) (word : ℕ) → OfItsType bus → firstOf (entryChecks bus array security) ≡ Passed → Kept bus (event bus array security word)
 unfolding event played
-entry-kept-by-four bus array security word four passed = go (firstOf (eventChecks bus word))
+event-keeps bus array security word typed passed = go (firstOf (eventChecks bus word))
   where
-    go : (verdict : Verdict) → let next = stepBy verdict bus array security word in (firstOf (entryChecks (next .0 .bus) (next .1) (next .2)) ≡ Passed) × (length (next .0 .bus .chips) ≡ 4)
+    go : (verdict : Verdict) → Kept bus (stepBy verdict bus array security word)
     go Passed =
         let (formed, array-fits, security-fits) = ready-of bus array security passed in
-        let next = played (orderOf word) bus array security in
-        let ready = ready-kept (orderOf word) (bus .count) (bus .chips) array security four array-fits security-fits (formed-of _ _ formed) (order-fair word) in
-        (of-ready (next .0 .bus) (next .1) (next .2) ready, chips-stay-four (orderOf word) (bus .count) (bus .chips) array security four array-fits security-fits)
-    go (Refused refusal) = (passed, four)
-
-pub entry-kept : (bus : Bus) (array security : List ℕ) (word : ℕ) → OfItsType bus → firstOf (entryChecks bus array security) ≡ Passed
-    → let next = event bus array security word in firstOf (entryChecks (next .0 .bus) (next .1) (next .2)) ≡ Passed
-entry-kept bus array security word typed passed = entry-kept-by-four bus array security word (has-four typed) passed .0
+        let order = orderOf word in
+        let next = played order bus array security in
+        let four = has-four typed in
+        let clauses = formed-of (bus .count) (bus .chips) formed in
+        let ready = ready-kept order (bus .count) (bus .chips) array security four array-fits security-fits clauses (order-fair word) in
+        let stays-four = chips-stay-four order (bus .count) (bus .chips) array security four array-fits security-fits in
+        let each = typed-now order (bus .count) (bus .chips) array security four array-fits security-fits clauses (brings-a-byte word) (chip-typed typed) in
+        record {
+          enters = of-ready (next .0 .bus) (next .1) (next .2) ready;
+          typed = bus-typed (bus .count) (next .0 .bus .chips) (count-fits typed) stays-four
+              (every-of ChipTyped (next .0 .bus .chips) noChip (λ i below. each i (omega (arith, below, stays-four))));
+          places = places-stay order (bus .count) (bus .chips) array security four array-fits security-fits;
+          count = refl;
+        }
+    go (Refused refusal) = record { enters = passed; typed = typed; places = refl; count = refl }

@@ -1,5 +1,5 @@
 -- Well formed allows states that no list of events leads to from set-up. That events keep these too is no empty promise: here are
--- four of them, each well formed by the definition, computed. And what becomes of the third, which no source speaks of (D40).
+-- four of them, each well formed by the definition, computed. And what becomes of the third (D40).
 use Prim.Native.Nat.{ℕ}
 use mathlib.Core.Bool.{true}
 use mathlib.Core.List.{List, [], _∷_, map}

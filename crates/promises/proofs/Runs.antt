@@ -19,9 +19,9 @@ use Rattle.refusal.proofs.Checks.{passed-first}
 use Rattle.bus.specs.declared.Bus.{Bus}
 use Rattle.bus.specs.Step.{entryChecks, eventChecks, stepBy, event, step}
 use Rattle.bus.specs.Run.{runChecks, Tape, noted, eventAt, runUpTo, runBy, run}
-use Rattle.bus.proofs.Typed.{OfItsType, has-four}
+use Rattle.bus.proofs.Typed.{OfItsType}
 use Rattle.promises.specs.Playing.{World, after, answersTo}
-use Rattle.promises.proofs.Kept.{entry-kept-by-four}
+use Rattle.promises.proofs.Kept.{Kept, event-keeps}
 use Rattle.promises.proofs.Playing.{after-append, answers-append, answers-length}
 
 -- event i as a step by itself
@@ -35,19 +35,25 @@ unfolding step event
 step-is-event bus array security word passed =
     ap (λ (verdict : Verdict). stepBy verdict bus array security word) (passed-first (entryChecks bus array security) (eventChecks bus word) passed)
 
--- the bus and both stores pass the checks at entry, and the bus has four places
+-- so a step keeps what an event keeps
+pub step-keeps : (bus : Bus) (array security : List ℕ) (word : ℕ) → OfItsType bus → firstOf (entryChecks bus array security) ≡ Passed → Kept bus (step bus array security word)
+step-keeps bus array security word typed passed = rw (step-is-event bus array security word passed) (event-keeps bus array security word typed passed)
+
+-- the bus and both stores pass the checks at entry, and the bus is of its type
 abbrev Sound : Tape → Type 0
-Sound tape = (firstOf (entryChecks (tape .0) (tape .1) (tape .2)) ≡ Passed) × (length (tape .0 .chips) ≡ 4)
+Sound tape = (firstOf (entryChecks (tape .0) (tape .1) (tape .2)) ≡ Passed) × OfItsType (tape .0)
 
 sound-kept : (events : List ℕ) (i : ℕ) (tape : Tape) → Sound tape → Sound (eventAt events i tape)
-sound-kept events i tape (passed, four) = entry-kept-by-four (tape .0) (tape .1) (tape .2) (getD events i 0) four passed
+sound-kept events i tape (passed, typed) =
+    let kept = event-keeps (tape .0) (tape .1) (tape .2) (getD events i 0) typed passed in
+    (kept .enters, kept .typed)
 
 events-are-steps : (events : List ℕ) (n : ℕ) (tape : Tape) → Sound tape → upTo (eventAt events) n tape ≡ upTo (stepAt events) n tape
 unfolding upTo
 events-are-steps events zero tape sound = refl
 events-are-steps events (suc n) tape sound =
     let now = upTo (eventAt events) n tape in
-    let (passed, four) = up-keeps (eventAt events) Sound (sound-kept events) n tape sound in
+    let (passed, typed) = up-keeps (eventAt events) Sound (sound-kept events) n tape sound in
     ap (noted n (now .3)) (sym (step-is-event (now .0) (now .1) (now .2) (getD events n 0) passed))
     ∙ ap (stepAt events n) (events-are-steps events n tape sound)
 
@@ -120,7 +126,7 @@ module _ (bus : Bus) (array security events answers : List ℕ) where
       let passed = passed-run is in
       passed .plays
       ∙ ap (λ (tape : Tape). (Passed, tape))
-      (events-are-steps events (length events) start (passed .enters, has-four typed) ∙ steps-play (length events) (omega arith) (passed .room))
+      (events-are-steps events (length events) start (passed .enters, typed) ∙ steps-play (length events) (omega arith) (passed .room))
       ∙ ap (λ (played : List ℕ). (Passed, tapeAfter played (drop (length events) answers))) (take-length events)
 
   -- refused or not
@@ -142,7 +148,7 @@ module _ (bus : Bus) (array security events answers : List ℕ) where
   answers-keep-their-length =
       run-keeps (λ (tape : Tape). length (tape .3) ≡ length answers) (λ k tape below same. length-set (tape .3) k _ ∙ same) refl
 
-  pub a-run-keeps-the-bus-well-formed : OfItsType bus → run bus array security events answers .0 ≡ Passed
-      → let tape = run bus array security events answers .1 in firstOf (entryChecks (tape .0) (tape .1) (tape .2)) ≡ Passed
-  a-run-keeps-the-bus-well-formed typed is =
-      run-keeps Sound (λ i tape below. sound-kept events i tape) (passed-run is .enters, has-four typed) .0
+  pub run-keeps-the-bus-well-formed : OfItsType bus → run bus array security events answers .0 ≡ Passed
+      → let tape = run bus array security events answers .1 in (firstOf (entryChecks (tape .0) (tape .1) (tape .2)) ≡ Passed) × OfItsType (tape .0)
+  run-keeps-the-bus-well-formed typed is =
+      run-keeps Sound (λ i tape below. sound-kept events i tape) (passed-run is .enters, typed)

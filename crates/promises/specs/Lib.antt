@@ -2,3 +2,4 @@ pub mod Own
 pub mod Playing
 pub mod Bytes
 pub mod Versions
+pub mod Answers

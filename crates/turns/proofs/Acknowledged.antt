@@ -23,6 +23,7 @@ use Rattle.lineup.specs.Chips.{chipAt, controlAt}
 use Rattle.line.specs.Line.{clash, lineReply}
 use Rattle.bus.specs.Step.{played, step}
 use Rattle.bus.proofs.Entry.{Entered, entered}
+use Rattle.bus.proofs.Typed.{has-four}
 use Rattle.promises.specs.Own.{own, gathered}
 use Rattle.promises.specs.Playing.{World, Made, afterOne, answerTo, after, answersTo}
 use Rattle.promises.proofs.Chips.{answer-is-gathered}
@@ -83,7 +84,7 @@ module _ (world : World) (e : Entering world) (heeding : (i : ℕ) → i < world
   unfolding played
   f8-answered word is =
       ap (λ (made : Made). answerWord (made .0 .answer)) (step-plays world word (ToAll (Sent 0xF8)) e (f8-asks count word is .0) calm)
-      ∙ ap (λ (said : Said). wordOf 0 (lineReply (Sent 0xF8) said)) (answer-is-gathered (ToAll (Sent 0xF8)) count chips (world .1) (world .2) (e .whole .four) (entry .array-fits) (entry .security-fits))
+      ∙ ap (λ (said : Said). wordOf 0 (lineReply (Sent 0xF8) said)) (answer-is-gathered (ToAll (Sent 0xF8)) count chips (world .1) (world .2) (has-four (e .typed)) (entry .array-fits) (entry .security-fits))
       ∙ ap (λ (byte : ℕ). wordOf 0 byte) (reply-is (anyBelow free (placed count)) refl)
 
 -- a Start leaves such a bus

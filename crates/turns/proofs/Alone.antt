@@ -1,11 +1,11 @@
 -- A chip alone on the line: where the whole bus passes the checks at entry, so does the bus of that chip only; and what it makes of an
 -- event is the chip's own step on stores that are all its own.
-use Prim.Native.Nat.{ℕ, zero, suc, _+_, _<_, _≤_}
+use Prim.Native.Nat.{ℕ, _+_, _<_, _≤_}
 use native.Mathlib.Nat.{zero-add}
 use native.Mathlib.Omega.{arith}
 use mathlib.Core.Bool.{true, _&&_}
 use mathlib.Core.List.{List, [], _++_, append-nil}
-use mathlib.Core.Path.{_≡_, _∙_, refl, sym, ap}
+use mathlib.Core.Path.{_≡_, _∙_, sym, ap}
 use lib.ListN.{length, take, drop, drop-of-length-le}
 use lib.Seq.{take-all}
 use Rattle.base.specs.Fold.{upTo}
@@ -34,7 +34,6 @@ use Rattle.lineup.specs.Chips.{chipAt, placesOf}
 use Rattle.lineup.proofs.Laws.{place-at}
 use Rattle.line.specs.Line.{heard, play}
 use Rattle.bus.specs.Step.{entryChecks}
-use Rattle.bus.proofs.Typed.{Whole}
 use Rattle.bus.proofs.Entry.{Entered, entered}
 use Rattle.promises.specs.Playing.{World}
 use Rattle.promises.proofs.Formed.{Formed, formed-of, of-formed, of-ready}
@@ -121,14 +120,3 @@ module _ (world : World) (enters : firstOf (entryChecks (world .0) (world .1) (w
         shares-fit .0 ∙ sym (zero-add _),
         shares-fit .1 ∙ sym (zero-add _),
       )
-
--- and it is as every value of its type is
-pub alone-whole : (world : World) (k : ℕ) → k < 4 → Whole (world .0) → Whole (alone k world .0)
-alone-whole world k below whole = record { four = refl; marks = marks }
-  where
-    marks : (i : ℕ) → i < 4 → length (chipAt (alone k world .0 .chips) i .load .marks) ≡ 256
-    marks zero first = whole .marks k below
-    marks (suc zero) first = refl
-    marks (suc (suc zero)) first = refl
-    marks (suc (suc (suc zero))) first = refl
-    marks (suc (suc (suc (suc i)))) first = absurd (omega arith)

@@ -25,13 +25,15 @@ use Rattle.line.specs.Line.{clash, play, lineReply}
 use Rattle.bus.specs.declared.Stepped.{Stepped}
 use Rattle.bus.specs.Step.{refused, played, step}
 use Rattle.bus.proofs.Entry.{Entered, entered}
+use Rattle.bus.proofs.Typed.{has-four}
 use Rattle.promises.specs.Own.{own}
 use Rattle.promises.specs.Playing.{World, Made, stepped, ledTo, afterOne, answerTo}
 use Rattle.promises.proofs.Chips.{answer-is-gathered}
 use Rattle.promises.proofs.Replies.{after-silence, one-speaks}
 use Rattle.turns.specs.Alone.{alone, renamed, onlyBus}
 use Rattle.turns.proofs.Asked.{only, Asked}
-use Rattle.turns.proofs.Alone.{alone-plays, shares-fit, alone-enters, alone-whole}
+use Rattle.turns.proofs.Alone.{alone-plays, shares-fit, alone-enters}
+use Rattle.turns.proofs.Typed.{alone-typed}
 use Rattle.turns.proofs.Entering.{Entering}
 use Rattle.turns.proofs.Stepping.{step-clashes, step-plays, each-moves}
 
@@ -60,7 +62,7 @@ module _ (world : World) (e : Entering world) (k : ℕ) (below : k < world .0 .c
   entry = entered (world .0) (world .1) (world .2) (e .enters)
 
   by-itself : Entering (alone k world)
-  by-itself = record { whole = alone-whole world k (omega (arith, below, entry .chips-most)) (e .whole); enters = alone-enters world (e .enters) k below }
+  by-itself = record { typed = alone-typed world k (omega (arith, below, entry .chips-most)) (e .typed); enters = alone-enters world (e .enters) k below }
 
   -- refusal 8 is k's own, on both
   pub clash-is-its-own : clash (eventOf order) (world .0 .count) (world .0 .chips) ≡ clashesWith (eventOf order) (controlAt (world .0 .chips) k .phase)
@@ -114,7 +116,7 @@ module _ (world : World) (e : Entering world) (k : ℕ) (below : k < world .0 .c
     where
       heard-alone : play order count chips (world .1) (world .2) .0 .said ≡ taken .0 .said
       heard-alone =
-          answer-is-gathered order count chips (world .1) (world .2) (e .whole .four) (entry .array-fits) (entry .security-fits)
+          answer-is-gathered order count chips (world .1) (world .2) (has-four (e .typed)) (entry .array-fits) (entry .security-fits)
           ∙ one-speaks (λ (i : ℕ). own order chips (world .1) (world .2) i .0 .said) (placed count) k (omega (arith, entry .all-placed))
           (λ j before differ. silent j (omega (arith, entry .all-placed)) differ)
           ∙ rw reached

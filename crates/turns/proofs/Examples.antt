@@ -25,7 +25,7 @@ use Rattle.lineup.specs.Wellformed.{wellFormed}
 use Rattle.bus.specs.declared.Bus.{Bus}
 use Rattle.bus.specs.Setup.{emptyChip}
 use Rattle.bus.specs.Step.{event, step}
-use Rattle.bus.proofs.Typed.{OfItsType}
+use Rattle.bus.proofs.Typed.{OfItsType, bus-typed}
 use Rattle.promises.specs.Playing.{World, answersTo}
 use Rattle.turns.specs.Idle.{isIdle}
 use Rattle.turns.specs.Turn.{Turn}
@@ -34,9 +34,9 @@ use Rattle.turns.specs.Alone.{onlyBus, alone, ownTurns}
 use Rattle.turns.specs.Playing.{ending}
 use Rattle.turns.specs.Benches.{ours}
 use Rattle.turns.specs.Undisturbed.{Ready, Turns, Alike}
-use Rattle.turns.proofs.Entering.{Entering, Idling, idling, entering}
+use Rattle.turns.proofs.Entering.{Entering, Idling, idling}
 use Rattle.turns.proofs.OneTurn.{alone-idles}
-use Rattle.turns.proofs.Typed.{ControlTyped, phase-standby, phase-busy, control-typed, chip-typed, bus-typed}
+use Rattle.turns.proofs.Typed.{ControlTyped, standby-typed, busy-typed, fresh-typed, unloaded-typed, empty-typed}
 use Rattle.turns.proofs.Undisturbed.{undisturbed}
 use Rattle.turns.proofs.Computing.{eventByEvent, computed, computed-answer, none, none-keeps}
 
@@ -57,14 +57,14 @@ busy c = inPhase Busy c
 
 -- a fresh chip is a value of its type, and so is one that is busy or whose WP is high
 free-typed : (part strap : ℕ) → part < 256 → strap < 256 → ControlTyped (fresh part strap)
-free-typed part strap fits fits′ = control-typed part strap fits fits′ false Standby phase-standby
+free-typed part strap fits fits′ = fresh-typed part strap fits fits′ false Standby standby-typed
 
-busy-typed : (part strap : ℕ) → part < 256 → strap < 256 → ControlTyped (busy (fresh part strap))
-busy-typed part strap fits fits′ = control-typed part strap fits fits′ false Busy phase-busy
+cycling-typed : (part strap : ℕ) → part < 256 → strap < 256 → ControlTyped (busy (fresh part strap))
+cycling-typed part strap fits fits′ = fresh-typed part strap fits fits′ false Busy busy-typed
 
 line-is-typed : (count : ℕ) → count < 2 ^ 64 → (one two three : Control) → ControlTyped one → ControlTyped two → ControlTyped three → OfItsType (line count one two three)
 line-is-typed count fits one two three first second third =
-    bus-typed count fits _ _ _ _ (chip-typed one first) (chip-typed two second) (chip-typed three third) (chip-typed (fresh 0 0) (free-typed 0 0 (lit< tt) (lit< tt)))
+    bus-typed count _ fits refl (unloaded-typed one first, (unloaded-typed two second, (unloaded-typed three third, (empty-typed, tt))))
 
 -- a 24CSM01 at strap 1, a 24CS32 at strap 0 that is busy, and a 24CS32 at strap 5 that is protected, with EWPM 0 and WP high
 abbrev pub mixed : Bus
@@ -91,7 +91,7 @@ board-is-ready = mixed-is-ready (replicate arrays 0xFF) (replicate securities 0x
 pub board-is-typed : OfItsType (board .0)
 unfolding board
 board-is-typed =
-    line-is-typed 3 (lit< tt) _ _ _ (free-typed 1 1 (lit< tt) (lit< tt)) (busy-typed 2 0 (lit< tt) (lit< tt)) (control-typed 2 5 (lit< tt) (lit< tt) true Standby phase-standby)
+    line-is-typed 3 (lit< tt) _ _ _ (free-typed 1 1 (lit< tt) (lit< tt)) (cycling-typed 2 0 (lit< tt) (lit< tt)) (fresh-typed 2 5 (lit< tt) (lit< tt) true Standby standby-typed)
 
 abbrev pub of : ℕ → List ℕ → Turn
 of chip events = record { chip = chip; events = events }
@@ -177,7 +177,7 @@ busy-chip-answers = (answer 0 1 refl, answer 2 1 refl, answer 2 2 refl)
     own = busyOne (replicate 4096 0xFF) (replicate 64 0xFF)
 
     enters : Entering own
-    enters = subst Entering alone-is (entering (alone-idles board (idling board-is-typed board-is-ready) 1 on-board))
+    enters = subst Entering alone-is (alone-idles board (idling board-is-typed board-is-ready) 1 on-board .entering)
 
     answer : (j i : ℕ) → isExcepted (turnOf 1 turns j) i ≡ false → answerOfBusy j i ≡ answerOf 0 (ownTurns 1 turns) (answersTo event own (eventsOf (ownTurns 1 turns))) j i
     answer j i usual =
@@ -204,8 +204,8 @@ pub pairs-are-typed : OfItsType (pair free free .0) × OfItsType (pair busy free
 pairs-are-typed =
     let last = free-typed 0 0 (lit< tt) (lit< tt) in (
       line-is-typed 2 (lit< tt) _ _ _ (free-typed 2 0 (lit< tt) (lit< tt)) (free-typed 2 1 (lit< tt) (lit< tt)) last,
-      line-is-typed 2 (lit< tt) _ _ _ (busy-typed 2 0 (lit< tt) (lit< tt)) (free-typed 2 1 (lit< tt) (lit< tt)) last,
-      line-is-typed 2 (lit< tt) _ _ _ (busy-typed 2 0 (lit< tt) (lit< tt)) (busy-typed 2 1 (lit< tt) (lit< tt)) last,
+      line-is-typed 2 (lit< tt) _ _ _ (cycling-typed 2 0 (lit< tt) (lit< tt)) (free-typed 2 1 (lit< tt) (lit< tt)) last,
+      line-is-typed 2 (lit< tt) _ _ _ (cycling-typed 2 0 (lit< tt) (lit< tt)) (cycling-typed 2 1 (lit< tt) (lit< tt)) last,
     )
 
 -- both together, and the first chip of the second pair alone
@@ -236,4 +236,4 @@ unfolding eventByEvent
 answers-in-both-orders = (by-events (firstReads ∷ secondClashes ∷ []), by-events (secondClashes ∷ firstReads ∷ []))
   where
     by-events : (list : List Turn) → toEach list (answersTo step (pair free free) (eventsOf list)) ≡ toEach list (answersTo event (pair free free) (eventsOf list))
-    by-events list = ap (toEach list) (computed none none-keeps (pair free free) (entering (pairs-idle .0)) (eventsOf list) .1)
+    by-events list = ap (toEach list) (computed none none-keeps (pair free free) (pairs-idle .0 .entering) (eventsOf list) .1)

@@ -1,5 +1,6 @@
 mod Asked
 mod Resting
+pub mod Typed
 pub mod Entering
 pub mod Alone
 mod Stepping
@@ -18,7 +19,6 @@ pub mod Turns
 pub mod Acknowledged
 pub mod Undisturbed
 pub mod Ran
-pub mod Typed
 pub mod Setup
 mod Computing
 pub mod Examples

@@ -1,4 +1,5 @@
--- A list of turns is played turn by turn, and its answers are cut where its turns are. A shuffle has the same turns of each chip, so each of its turns is one.
+-- A list of turns is played turn by turn, and its answers are cut where its turns are. A shuffle has the same turns of each chip, so each of
+-- its turns is one.
 use Prim.Native.Nat.{ℕ, zero, suc, _+_, _<_, _≤_}
 use native.Mathlib.Decide.{decLt}
 use native.Mathlib.Nat.{zero-add, add-suc, add-assoc}

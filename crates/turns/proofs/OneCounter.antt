@@ -1,32 +1,35 @@
 -- The fault of one array counter for the line. It is not seen as a malformed state: a bus that enters still enters with it.
-use Prim.Native.Nat.{ℕ, zero, suc, _%_, _<_}
+use Prim.Native.Nat.{ℕ, zero, suc, _%_, _<_, _^_}
 use native.Mathlib.Nat.{mod-lt}
 use native.Mathlib.Omega.{arith}
 use mathlib.Core.Bool.{true, _&&_}
 use mathlib.Core.List.{List, [], _∷_, map}
-use mathlib.Core.Path.{_≡_, _∙_, refl, ap}
+use mathlib.Core.Path.{_≡_, _∙_, refl, sym, ap, subst}
 use lib.Dec.{ltb}
 use lib.ListN.{length, length-map, set, replicate}
 use borrow.Author.Tests.{lt-ltb}
 use Rattle.base.proofs.Fold.{and-left, and-right, and-both, up-same}
+use Rattle.base.proofs.Every.{every-of}
 use Rattle.parts.specs.Part.{geometryOf}
 use Rattle.parts.proofs.part.Laws.{sound-of}
 use Rattle.control.specs.declared.Control.{Control}
 use Rattle.chip.specs.declared.Chip.{Chip}
+use Rattle.chip.proofs.Typed.{ChipTyped}
 use Rattle.wellformed.specs.Wellformed.{isSetUp, countersFit, controlFits}
 use Rattle.wellformed.specs.Wellformed as one-chip
 use Rattle.refusal.specs.declared.Verdict.the-variants.{Passed}
 use Rattle.refusal.specs.Checks.{firstOf}
 use Rattle.board.specs.Place.{nowhere}
 use Rattle.board.proofs.Laws.{placed-most}
-use Rattle.lineup.specs.Chips.{chipAt, controlAt, placeOf, placesOf}
+use Rattle.lineup.specs.Chips.{noChip, chipAt, controlAt, placeOf, placesOf}
 use Rattle.bus.specs.declared.Bus.{Bus}
 use Rattle.bus.specs.Step.{entryChecks}
-use Rattle.bus.proofs.Typed.{Whole}
+use Rattle.bus.proofs.Typed.{OfItsType, count-fits, has-four, bus-typed, chip-typed}
 use Rattle.promises.proofs.Formed.{formed-of, of-formed, ready-of, of-ready}
 use Rattle.turns.specs.Benches.{movedTo, shared}
 use Rattle.turns.proofs.Entering.{Entering}
 use Rattle.turns.proofs.Computing.{Keeps}
+use Rattle.turns.proofs.Typed.{counter-typed}
 
 module _ (at : ℕ) where
   each-moves : (chips : List Chip) (i : ℕ) → i < length chips → chipAt (map (movedTo at) chips) i ≡ movedTo at (chipAt chips i)
@@ -34,32 +37,46 @@ module _ (at : ℕ) where
   each-moves (c ∷ chips) zero below = refl
   each-moves (c ∷ chips) (suc i) below = each-moves chips i (omega arith)
 
+  -- the counter that all share is inside every array
+  counter-inside : (part : ℕ) → at % geometryOf part .array < geometryOf part .array
+  counter-inside part = let sound = sound-of part in mod-lt at (omega (arith, sound .zone-eight, sound .zone-some))
+
+  counter-small : (part : ℕ) → at % geometryOf part .array < 2 ^ 32
+  counter-small part = omega (arith, counter-inside part, sound-of part .array-most)
+
   still-formed : (c : Chip) → one-chip.wellFormed c ≡ true → one-chip.wellFormed (movedTo at c) ≡ true
   unfolding one-chip.wellFormed
   still-formed c formed =
       let held : Control = c .control in
       let size : ℕ = geometryOf (held .part) .array in
-      let sound = sound-of (held .part) in
       let fits : controlFits held ≡ true = and-left _ _ formed in
       let front : (isSetUp held && countersFit held) ≡ true = and-left _ _ fits in
       let counters : countersFit held ≡ true = and-right (isSetUp held) _ front in
-      let inside : ltb (at % size) size ≡ true = lt-ltb _ _ (mod-lt at (omega (arith, sound .zone-eight, sound .zone-some))) in
+      let inside : ltb (at % size) size ≡ true = lt-ltb _ _ (counter-inside (held .part)) in
       and-both _ _
       (and-both _ _
       (and-both _ _ (and-left (isSetUp held) _ front) (and-both _ _ inside (and-right (ltb (held .array) size) _ counters)))
       (and-right (isSetUp held && countersFit held) _ fits))
       (and-right (controlFits held) _ formed)
 
-  module _ (bus : Bus) (array security : List ℕ) (whole : Whole bus) where
+  module _ (bus : Bus) (array security : List ℕ) (typed : OfItsType bus) where
     abbrev moved : Bus
     moved = record { count = bus .count; chips = map (movedTo at) (bus .chips) }
 
     here : (i : ℕ) → i < 4 → chipAt (moved .chips) i ≡ movedTo at (chipAt (bus .chips) i)
-    here i below = each-moves (bus .chips) i (omega (arith, whole .four))
+    here i below = each-moves (bus .chips) i (omega (arith, has-four typed))
 
     same-places : placesOf (moved .chips) ≡ placesOf (bus .chips)
     unfolding placesOf
     same-places = up-same _ _ 4 (λ i places below. ap (λ (c : Chip). set places i (placeOf (c .control))) (here i below)) (replicate 4 nowhere)
+
+    moved-typed : OfItsType moved
+    moved-typed =
+        let four : length (moved .chips) ≡ 4 = length-map (bus .chips) (movedTo at) ∙ has-four typed in
+        bus-typed (bus .count) (moved .chips) (count-fits typed) four
+        (every-of ChipTyped (moved .chips) noChip (λ i below.
+        let inside : i < 4 = omega (arith, below, four) in
+        subst ChipTyped (sym (here i inside)) (counter-typed (chipAt (bus .chips) i) _ (counter-small (chipAt (bus .chips) i .control .part)) (chip-typed typed i inside))))
 
     still-enters : firstOf (entryChecks bus array security) ≡ Passed → Entering (moved, array, security)
     still-enters passed =
@@ -73,7 +90,7 @@ module _ (at : ℕ) where
           fit = λ i below. rw (here i (omega (arith, most))) (still-formed (chipAt (bus .chips) i) (was .fit i below));
           apart = λ i j below before. rw (controlAt, here i (omega (arith, most)), here j (omega (arith, most))) (was .apart i j below before);
         }) in
-        record { whole = record { four = length-map (bus .chips) (movedTo at) ∙ whole .four; marks = λ i below. ap (λ (c : Chip). length (c .load .marks)) (here i below) ∙ whole .marks i below }; enters = of-ready moved array security (now, rw same-places array-fits, rw same-places security-fits) }
+        record { typed = moved-typed; enters = of-ready moved array security (now, rw same-places array-fits, rw same-places security-fits) }
 
 pub shared-keeps : Keeps shared
-shared-keeps world word made e = still-enters _ (made .0 .bus) (made .1) (made .2) (e .whole) (e .enters)
+shared-keeps world word made e = still-enters _ (made .0 .bus) (made .1) (made .2) (e .typed) (e .enters)

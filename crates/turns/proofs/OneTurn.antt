@@ -1,4 +1,4 @@
--- One turn on a bus that is ready for turns: it is ready again, the other chips and their shares are as they were, and chip k, its shares and the answers
+-- One turn on a bus that waits for turns: it waits again, the other chips and their shares are as they were, and chip k, its shares and the answers
 -- are those of k alone on the line. All of demand 3 is made of this.
 use Prim.Native.Nat.{ℕ, zero, suc, _<_, _≤_}
 use native.Mathlib.Decide.{decLt}
@@ -22,20 +22,23 @@ use Rattle.lineup.specs.Chips.{chipAt, placesOf}
 use Rattle.lineup.proofs.Laws.{place-at}
 use Rattle.bus.specs.Step.{step}
 use Rattle.bus.proofs.Entry.{Entered, entered}
+use Rattle.bus.proofs.Typed.{OfItsType, has-marks}
 use Rattle.promises.specs.Playing.{World, after, answersTo}
 use Rattle.promises.proofs.Formed.{none-holds, formed-of}
 use Rattle.turns.specs.Idle.{isAtRest, isIdle}
 use Rattle.turns.specs.Turn.{Turn, Anything, isTurnAt, isTurn}
 use Rattle.turns.specs.Shuffle.{isExcepted}
 use Rattle.turns.specs.Alone.{alone, renamed}
-use Rattle.turns.proofs.Entering.{Idling, entering}
-use Rattle.turns.proofs.Alone.{alone-enters, alone-whole}
+use Rattle.turns.specs.Undisturbed.{Ready}
+use Rattle.turns.proofs.Entering.{Idling, idling, ready-of}
+use Rattle.turns.proofs.Alone.{alone-enters}
 use Rattle.turns.proofs.Others.{Others}
+use Rattle.turns.proofs.Typed.{alone-typed}
 use Rattle.turns.proofs.During.{During, excepted, Went}
 use Rattle.turns.proofs.Grammar.{turn-by-cases}
 use Rattle.turns.proofs.Turn.{Leads, named-leads, each-leads}
 
-module _ (began : World) (ready : Idling began) where
+module _ (began : World) (waits : Idling began) where
   abbrev count : ℕ
   count = began .0 .count
 
@@ -46,11 +49,11 @@ module _ (began : World) (ready : Idling began) where
   places = placesOf chips
 
   entry : Entered (began .0) (began .1) (began .2)
-  entry = entered (began .0) (began .1) (began .2) (ready .enters)
+  entry = entered (began .0) (began .1) (began .2) (waits .entering .enters)
 
   at-rest : (j : ℕ) → j < count → isAtRest (chipAt chips j) ≡ true
   unfolding isIdle
-  at-rest j below = all-at (λ (i : ℕ). isAtRest (chipAt chips i)) (placed count) j (ready .idle) (omega (arith, entry .all-placed))
+  at-rest j below = all-at (λ (i : ℕ). isAtRest (chipAt chips i)) (placed count) j (waits .idle) (omega (arith, entry .all-placed))
 
   -- no two chips match one address byte: the last of set-up's checks
   apart : (i j : ℕ) → i < count → j < i → sharedAddress places i j ≡ false
@@ -73,7 +76,7 @@ module _ (began : World) (ready : Idling began) where
       record {
         below = below;
         at-rest = at-rest;
-        marked = λ j before. ready .whole .marks j (omega (arith, entry .chips-most));
+        marked = λ j before. has-marks (waits .entering .typed) j (omega (arith, entry .chips-most));
         unshared = λ j before differ.
             subst (λ (p : Place). shareAddress (geometryOf (placeAt places k .part)) (placeAt places k .strap) (geometryOf (p .part)) (p .strap) ≡ false)
             (place-at chips j (omega (arith, entry .chips-most)))
@@ -83,7 +86,7 @@ module _ (began : World) (ready : Idling began) where
   begins : (k : ℕ) → During k Anything began began
   begins k =
       record {
-        entering = entering ready;
+        entering = waits .entering;
         count = refl;
         board = refl;
         rest = λ i past. refl;
@@ -102,7 +105,7 @@ module _ (began : World) (ready : Idling began) where
 
 -- what a turn of chip k leaves
 pub record Leaves (began : World) (k : ℕ) (events : List ℕ) : Type 0 where
-  pub ready : Idling (after step began events)
+  pub waits : Idling (after step began events)
   pub count : after step began events .0 .count ≡ began .0 .count
   pub board : placesOf (after step began events .0 .chips) ≡ placesOf (began .0 .chips)
   pub rest : (i : ℕ) → began .0 .count ≤ i → chipAt (after step began events .0 .chips) i ≡ chipAt (began .0 .chips) i
@@ -114,9 +117,9 @@ pub record Leaves (began : World) (k : ℕ) (events : List ℕ) : Type 0 where
 pub turn-leaves : (began : World) → Idling began → (turn : Turn) → isTurn (began .0 .count) (placesOf (began .0 .chips)) turn ≡ true
     → Leaves began (turn .chip) (turn .events)
 unfolding isIdle
-turn-leaves began ready turn is =
+turn-leaves began waits turn is =
     record {
-      ready = record { whole = now .entering .whole; enters = now .entering .enters; idle = at-rest-again };
+      waits = record { entering = now .entering; idle = at-rest-again };
       count = now .count;
       board = now .board;
       rest = now .rest;
@@ -136,7 +139,7 @@ turn-leaves began ready turn is =
     below = ltb-true _ _ (and-left _ _ is)
 
     whole : Went k false (turn .events) began began
-    whole = went began ready k (turn .events) below (and-right (ltb k (began .0 .count)) _ is)
+    whole = went began waits k (turn .events) below (and-right (ltb k (began .0 .count)) _ is)
 
     ends : World
     ends = after step began (turn .events)
@@ -147,19 +150,24 @@ turn-leaves began ready turn is =
     rests : (j : ℕ) → j < began .0 .count → (same : Bool) → eqb j k ≡ same → isAtRest (chipAt (ends .0 .chips) j) ≡ true
     rests j before true same = rw (eqb-true j k same) (whole .rests)
     rests j before false same =
-        ap (λ (w : World). isAtRest (chipAt (w .0 .chips) 0)) (now .others j before (eqb-false j k same)) ∙ at-rest began ready j before
+        ap (λ (w : World). isAtRest (chipAt (w .0 .chips) 0)) (now .others j before (eqb-false j k same)) ∙ at-rest began waits j before
 
     at-rest-again : isIdle (ends .0) ≡ true
     at-rest-again =
         all-each (λ (i : ℕ). isAtRest (chipAt (ends .0 .chips) i)) (placed (ends .0 .count))
         (λ j below. rests j (omega (arith, below, now .count, entered (ends .0) (ends .1) (ends .2) (now .entering .enters) .all-placed)) (eqb j k) refl)
 
--- a chip alone on the line is ready for its turns too
+-- a chip alone on the line waits for its turns too
 pub alone-idles : (world : World) → Idling world → (k : ℕ) → k < world .0 .count → Idling (alone k world)
 unfolding isIdle upTo
-alone-idles world ready k below =
+alone-idles world waits k below =
     record {
-      whole = alone-whole world k (omega (arith, below, entry world ready .chips-most)) (ready .whole);
-      enters = alone-enters world (ready .enters) k below;
-      idle = rw (at-rest world ready k below);
+      entering = record {
+        typed = alone-typed world k (omega (arith, below, entry world waits .chips-most)) (waits .entering .typed);
+        enters = alone-enters world (waits .entering .enters) k below;
+      };
+      idle = rw (at-rest world waits k below);
     }
+
+pub alone-ready : (world : World) → OfItsType (world .0) → Ready world → (k : ℕ) → k < world .0 .count → OfItsType (alone k world .0) × Ready (alone k world)
+alone-ready world typed ready k below = ready-of (alone-idles world (idling typed ready) k below)

@@ -16,9 +16,8 @@ use Rattle.turns.specs.Shuffle.{turnOf, beganAt, eventsOf, Shuffle, answ
 use Rattle.turns.specs.Alone.{alone, ownTurns}
 use Rattle.turns.specs.Undisturbed.{Ready, Turns, Alike, AsAlone, acknowledge}
 use Rattle.turns.proofs.Alone.{alone-enters}
-use Rattle.turns.proofs.Entering.{idling, ready-of}
 use Rattle.turns.proofs.Lists.{answers-past}
-use Rattle.turns.proofs.Turns.{turns-pass}
+use Rattle.turns.proofs.Turns.{turns-end-ready}
 use Rattle.turns.proofs.Undisturbed.{undisturbed}
 
 -- what follows the answers is not looked at
@@ -79,5 +78,5 @@ module _ (world : World) (ready : Ready world) (turns : List Turn) (are-turns : 
   pub runs-end-ready : (one : RunCall) → Plays one world (eventsOf turns) → OfItsType (left one .0 .0) × Ready (left one .0)
   runs-end-ready one plays = (
     left-typed one,
-    subst Ready (sym (back one plays .ends)) (ready-of (turns-pass turns world (idling (typed one plays) ready) are-turns .ready)),
+    subst Ready (sym (back one plays .ends)) (turns-end-ready turns world (typed one plays) ready are-turns .1),
   )

@@ -1,13 +1,11 @@
 -- Any chip: a Stop leaves it at rest, and so does an event that names it where it was at rest; a Start, and F8h behind it, leave it sending
--- nothing; and its marks stay as many.
+-- nothing.
 use Prim.Native.Nat.{ℕ, _%_}
 use mathlib.Core.Bool.{Bool, true, false, cond, not, _&&_, _||_, false≢true}
 use mathlib.Core.List.{List}
-use mathlib.Core.Path.{_≡_, _∙_, refl}
-use lib.ListN.{length, length-set, length-replicate}
+use mathlib.Core.Path.{_≡_, refl}
 use Rattle.base.proofs.test.Laws.{either}
 use Rattle.base.proofs.Fold.{and-left, and-right, or-right}
-use Rattle.parts.specs.Part.{geometryOf}
 use Rattle.load.specs.declared.Load.{Load}
 use Rattle.load.specs.Load as load
 use Rattle.load.proofs.Laws.{within-emptied}
@@ -99,49 +97,6 @@ named-rests c a s CycleOver named rest =
     (and-right (not (isSending (c .control .phase)) && not (isTaking (c .control .phase))) _ rest)
     rest
 named-rests c a s PowerUp named rest = absurd (false≢true named)
-
--- a load has a place for each byte of the longest page, marked or not
-module _ (c : Chip) (a s : List ℕ) (long : length (c .load .marks) ≡ 256) where
-  abbrev Long : Load → Type 0
-  Long held = length (held .marks) ≡ 256
-
-  emptied-long : Long (load.emptied (c .load))
-  emptied-long = length-replicate 256 false
-
-  put-long : (at byte : ℕ) → Long (load.put (geometryOf (c .control .part)) at byte (c .load))
-  put-long at byte = length-set (c .load .marks) _ true ∙ long
-
-  data-long : (kind : Data) (byte : ℕ) → Long (taking.loadedData kind (c .load) (c .control) byte)
-  data-long ToArray byte = put-long (c .control .array) byte
-  data-long ToSecurity byte = put-long (c .control .security) byte
-  data-long (ToConfiguration came) byte = long
-  data-long (ToLock some) byte = either Long (c .control .locked) _ (c .load) emptied-long long
-  data-long ToNowhere byte = long
-
-  loaded-long : (phase : Phase) (byte : ℕ) → Long (taking.loadedIn phase (c .load) (c .control) byte)
-  loaded-long Standby byte = long
-  loaded-long Busy byte = long
-  loaded-long AwaitsAddress byte = long
-  loaded-long AwaitsChoice byte = long
-  loaded-long (AwaitsWord word) byte = long
-  loaded-long (TakesData kind) byte = data-long kind byte
-  loaded-long (SendsByte source) byte = long
-
-  unless-busy : (x y : Chip) → Long (x .load) → Long (y .load) → Long (cond (isBusy (c .control .phase)) x y .load)
-  unless-busy x y = either (λ (d : Chip). Long (d .load)) (isBusy (c .control .phase)) x y
-
-  long-after : (event : Event) → Long (step c a s event .0 .chip .load)
-  unfolding step taking.loaded
-  long-after Start = unless-busy c _ long emptied-long
-  long-after Stop = either (λ (x : Chip × List ℕ × List ℕ). Long (x .0 .load)) (isBusy (c .control .phase)) (c, a, s) _ long emptied-long
-  long-after (Sent byte) = loaded-long (c .control .phase) byte
-  long-after (Read nack) = long
-  long-after (Wp level) = long
-  long-after CycleOver = unless-busy _ c long long
-  long-after PowerUp = emptied-long
-
-pub marks-kept : (c : Chip) (a s : List ℕ) (event : Event) → length (c .load .marks) ≡ 256 → length (step c a s event .0 .chip .load .marks) ≡ 256
-marks-kept c a s event long = long-after c a s long event
 
 -- a chip awaits an address byte or is busy: so after a Start, and then F8h leaves it sending nothing
 abbrev pub isHeeding : Phase → Bool

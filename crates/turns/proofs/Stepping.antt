@@ -16,11 +16,12 @@ use Rattle.lineup.specs.Chips.{chipAt, placesOf}
 use Rattle.line.specs.Line.{clash}
 use Rattle.bus.specs.Step.{eventChecks, refused, played, stepBy, event, step}
 use Rattle.bus.proofs.Entry.{Entered, entered}
+use Rattle.bus.proofs.Typed.{has-four}
 use Rattle.promises.specs.Own.{own}
 use Rattle.promises.specs.Playing.{World, Made, stepped, ledTo, afterOne}
 use Rattle.promises.proofs.Chips.{each-chip-takes-its-own, the-rest-stays}
-use Rattle.promises.proofs.Kept.{places-kept}
-use Rattle.promises.proofs.Runs.{step-is-event}
+use Rattle.promises.proofs.Kept.{Kept, places-stay}
+use Rattle.promises.proofs.Runs.{step-is-event, step-keeps}
 use Rattle.turns.specs.Alone.{alone, onlyBus}
 use Rattle.turns.proofs.Asked.{Legal}
 use Rattle.turns.proofs.Entering.{Entering}
@@ -62,31 +63,30 @@ module _ (world : World) (word : ℕ) (order : Order) (e : Entering world) (lega
       go true is = rw (step-clashes is) stays
       go false is = rw (step-plays is) moves
 
+  kept : Kept (world .0) (stepped step world word)
+  kept = step-keeps (world .0) (world .1) (world .2) word (e .typed) (e .enters)
+
   pub count-kept : afterOne step world word .0 .count ≡ world .0 .count
-  unfolding played
-  count-kept = led (λ (next : World). next .0 .count ≡ count) refl refl
+  count-kept = kept .count
 
   pub board-kept : placesOf (afterOne step world word .0 .chips) ≡ placesOf (world .0 .chips)
-  unfolding played
-  board-kept =
-      led (λ (next : World). placesOf (next .0 .chips) ≡ placesOf chips) refl
-      (places-kept order count chips (world .1) (world .2) (e .whole .four) (entry .array-fits) (entry .security-fits))
+  board-kept = kept .places
 
   pub rest-kept : (i : ℕ) → world .0 .count ≤ i → chipAt (afterOne step world word .0 .chips) i ≡ chipAt (world .0 .chips) i
   unfolding played
   rest-kept i past =
       led (λ (next : World). chipAt (next .0 .chips) i ≡ chipAt chips i) refl
-      (the-rest-stays order count chips (world .1) (world .2) (e .whole .four) (entry .array-fits) (entry .security-fits) i (omega (arith, entry .all-placed)))
+      (the-rest-stays order count chips (world .1) (world .2) (has-four (e .typed)) (entry .array-fits) (entry .security-fits) i (omega (arith, entry .all-placed)))
 
   -- played, each chip has made its own step
   pub each-moves : clash (eventOf order) (world .0 .count) (world .0 .chips) ≡ false → (i : ℕ) → i < world .0 .count
       → let mine = own order (world .0 .chips) (world .1) (world .2) i in alone i (afterOne step world word) ≡ (onlyBus (mine .0 .chip), mine .1, mine .2)
   unfolding played
   each-moves is i below =
-      let (chip-is, array-is, security-is) = each-chip-takes-its-own order count chips (world .1) (world .2) (e .whole .four) (entry .array-fits) (entry .security-fits) i (omega (arith, entry .all-placed)) in
+      let (chip-is, array-is, security-is) = each-chip-takes-its-own order count chips (world .1) (world .2) (has-four (e .typed)) (entry .array-fits) (entry .security-fits) i (omega (arith, entry .all-placed)) in
       ap (λ (next : Made). alone i (ledTo next)) (step-plays is)
       ∙ rw (
-        places-kept order count chips (world .1) (world .2) (e .whole .four) (entry .array-fits) (entry .security-fits),
+        places-stay order count chips (world .1) (world .2) (has-four (e .typed)) (entry .array-fits) (entry .security-fits),
         chip-is,
         array-is,
         security-is,

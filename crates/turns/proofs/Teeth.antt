@@ -21,7 +21,7 @@ use Rattle.turns.specs.Alone.{alone, renamed, ownTurns}
 use Rattle.turns.specs.Playing.{ending}
 use Rattle.turns.specs.Benches.{shared, oneCounter, forFirst, ownF8}
 use Rattle.turns.specs.Undisturbed.{Ready, Turns, acknowledge, Undisturbed}
-use Rattle.turns.proofs.Entering.{Entering, idling, entering}
+use Rattle.turns.proofs.Entering.{Entering, idling}
 use Rattle.turns.proofs.Computing.{eventByEvent, Keeps, computed, computed-answer, none, none-keeps}
 use Rattle.turns.proofs.Examples.{of, pair, free, busy, pairs-are-ready, pairs-are-typed, pairs-idle, firstReads}
 use Rattle.turns.proofs.OneCounter.{shared-keeps}
@@ -44,7 +44,7 @@ one-counter-disturbs undisturbed =
     let one : List Turn = firstReads ∷ secondReads ∷ [] in
     let other : List Turn = secondReads ∷ firstReads ∷ [] in
     let same = undisturbed .shuffled (pair free free) one other typed ready refl (swapped _ _) .answers 0 0 2 refl in
-    let answer = computed-answer shared shared-keeps (pair free free) (entering (idling typed ready)) 0 in
+    let answer = computed-answer shared shared-keeps (pair free free) (idling typed ready .entering) 0 in
     eqb-false _ _ refl (sym (answer one 0 2) ∙ same ∙ answer other 0 2)
 
 -- two chips are sent a word address each, 005h and 007h
@@ -63,7 +63,7 @@ one-counter-ends-apart agree =
     let ready = pairs-are-ready .0 in
     let one : List Turn = firstAddressed ∷ secondAddressed ∷ [] in
     let other : List Turn = secondAddressed ∷ firstAddressed ∷ [] in
-    let ends = computed shared shared-keeps (pair free free) (entering (idling typed ready)) in
+    let ends = computed shared shared-keeps (pair free free) (idling typed ready .entering) in
     let same = sym (ends (eventsOf one) .0) ∙ agree (pair free free) one other typed ready refl (swapped _ _) ∙ ends (eventsOf other) .0 in
     eqb-false _ _ refl (ap (λ (world : World). controlAt (world .0 .chips) 0 .array) same)
 
@@ -79,8 +79,8 @@ pub f8-is-acknowledged-by-another :
 unfolding eventByEvent
 f8-is-acknowledged-by-another = (
   refl,
-  computed none none-keeps (pair busy free) (entering (pairs-idle .1)) (calls .events) .1,
-  computed none none-keeps (alone 0 (pair busy free)) (entering (pairs-idle .3)) (map renamed (calls .events)) .1,
+  computed none none-keeps (pair busy free) (pairs-idle .1 .entering) (calls .events) .1,
+  computed none none-keeps (alone 0 (pair busy free)) (pairs-idle .3 .entering) (map renamed (calls .events)) .1,
 )
 
 -- so the answers of a chip by itself, with none excepted, are not those that it gets on the line
@@ -92,8 +92,8 @@ f8-is-not-its-own without =
     let ready = pairs-are-ready .1 in
     let turns : List Turn = calls ∷ [] in
     let same = without (pair busy free) turns typed ready refl 0 (omega arith) 0 1 in
-    let together = computed-answer none none-keeps (pair busy free) (entering (idling typed ready)) 0 turns 0 1 in
-    let by-itself = computed-answer none none-keeps (alone 0 (pair busy free)) (entering (pairs-idle .3)) 0 (ownTurns 0 turns) 0 1 in
+    let together = computed-answer none none-keeps (pair busy free) (idling typed ready .entering) 0 turns 0 1 in
+    let by-itself = computed-answer none none-keeps (alone 0 (pair busy free)) (pairs-idle .3 .entering) 0 (ownTurns 0 turns) 0 1 in
     eqb-false _ _ refl (sym together ∙ same ∙ by-itself)
 
 abbrev secondEnds : Turn
@@ -109,7 +109,7 @@ f8-depends-on-the-order without =
     let one : List Turn = calls ∷ secondEnds ∷ [] in
     let other : List Turn = secondEnds ∷ calls ∷ [] in
     let same = without (pair busy busy) one other typed ready refl (swapped _ _) 0 0 1 in
-    let answer = computed-answer none none-keeps (pair busy busy) (entering (idling typed ready)) 0 in
+    let answer = computed-answer none none-keeps (pair busy busy) (idling typed ready .entering) 0 in
     eqb-false _ _ refl (sym (answer one 0 1) ∙ same ∙ answer other 0 1)
 
 forFirst-keeps : (bench : Bench) → Keeps (forFirst bench)
@@ -122,6 +122,6 @@ own-f8-is-refused undisturbed =
     let typed = pairs-are-typed .1 in
     let ready = pairs-are-ready .1 in
     let same = undisturbed .excepted (pair busy free) (calls ∷ []) typed ready refl 0 0 1 refl in
-    let by-events = computed (forFirst step) (forFirst-keeps step) (pair busy free) (entering (idling typed ready)) in
-    let answer = computed-answer (forFirst step) (forFirst-keeps step) (pair busy free) (entering (idling typed ready)) 0 (calls ∷ []) 0 1 in
+    let by-events = computed (forFirst step) (forFirst-keeps step) (pair busy free) (idling typed ready .entering) in
+    let answer = computed-answer (forFirst step) (forFirst-keeps step) (pair busy free) (idling typed ready .entering) 0 (calls ∷ []) 0 1 in
     eqb-false _ _ refl (sym answer ∙ same ∙ ap (λ (world : World). acknowledge (world .0)) (by-events (0x0100 ∷ []) .0))

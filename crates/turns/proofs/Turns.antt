@@ -11,30 +11,31 @@ use borrow.Author.Tests.{eqb-true, eqb-false}
 use Rattle.base.proofs.Fold.{and-left, and-right}
 use Rattle.lineup.specs.Chips.{chipAt, placesOf}
 use Rattle.bus.specs.Step.{step}
+use Rattle.bus.proofs.Typed.{OfItsType}
 use Rattle.promises.specs.Playing.{World, after, answersTo}
 use Rattle.promises.proofs.Playing.{after-append}
 use Rattle.turns.specs.Turn.{Turn, isTurn}
 use Rattle.turns.specs.Shuffle.{areTurns, eventsOf, turnsOf, answersOf, isExcepted}
 use Rattle.turns.specs.Alone.{alone, renamed, ownTurn, ownTurns}
-use Rattle.turns.specs.Undisturbed.{Turns}
-use Rattle.turns.proofs.Entering.{Idling}
+use Rattle.turns.specs.Undisturbed.{Ready, Turns}
+use Rattle.turns.proofs.Entering.{Idling, idling, ready-of}
 use Rattle.turns.proofs.Lists.{answers-cut}
 use Rattle.turns.proofs.OneTurn.{Leaves, turn-leaves}
 
--- what turns keep from one world to another: a bus that is ready, its count and the places past it
+-- what turns keep from one world to another: a bus that waits for turns, its count and the places past it
 pub record Passes (world ends : World) : Type 0 where
-  pub ready : Idling ends
+  pub waits : Idling ends
   pub count : ends .0 .count ≡ world .0 .count
   pub rest : (i : ℕ) → world .0 .count ≤ i → chipAt (ends .0 .chips) i ≡ chipAt (world .0 .chips) i
 
 -- the first turn of a list, and where the others begin
-module _ (world : World) (ready : Idling world) (turn : Turn) (rest : List Turn) (are : Turns world (turn ∷ rest)) where
+module _ (world : World) (waits : Idling world) (turn : Turn) (rest : List Turn) (are : Turns world (turn ∷ rest)) where
   abbrev next : World
   next = after step world (turn .events)
 
   leaves : Leaves world (turn .chip) (turn .events)
   unfolding areTurns
-  leaves = turn-leaves world ready turn (and-left _ _ are)
+  leaves = turn-leaves world waits turn (and-left _ _ are)
 
   are-later : Turns next rest
   unfolding areTurns
@@ -53,35 +54,40 @@ module _ (world : World) (ready : Idling world) (turn : Turn) (rest : List Turn)
 
 pub turns-pass : (turns : List Turn) (world : World) → Idling world → Turns world turns → Passes world (after step world (eventsOf turns))
 unfolding after eventsOf
-turns-pass [] world ready are = record { ready = ready; count = refl; rest = λ i past. refl }
-turns-pass (turn ∷ rest) world ready are =
-    let first = leaves world ready turn rest are in
-    let later = turns-pass rest (after step world (turn .events)) (first .ready) (are-later world ready turn rest are) in
+turns-pass [] world waits are = record { waits = waits; count = refl; rest = λ i past. refl }
+turns-pass (turn ∷ rest) world waits are =
+    let first = leaves world waits turn rest are in
+    let later = turns-pass rest (after step world (turn .events)) (first .waits) (are-later world waits turn rest are) in
     subst (Passes world) (sym (after-append step world (turn .events) (eventsOf rest))) (
     record {
-      ready = later .ready;
+      waits = later .waits;
       count = later .count ∙ first .count;
       rest = λ i past. later .rest i (omega (arith, past, first .count)) ∙ first .rest i past;
     }
     )
 
+-- so turns may follow turns
+pub turns-end-ready : (turns : List Turn) (world : World) → OfItsType (world .0) → Ready world → Turns world turns
+    → let ends = after step world (eventsOf turns) in OfItsType (ends .0) × Ready ends
+turns-end-ready turns world typed ready are = ready-of (turns-pass turns world (idling typed ready) are .waits)
+
 pub ends-alone : (turns : List Turn) (world : World) → Idling world → Turns world turns → (k : ℕ) → k < world .0 .count
     → alone k (after step world (eventsOf turns)) ≡ after step (alone k world) (eventsOf (ownTurns k turns))
 unfolding after eventsOf turnsOf
-ends-alone [] world ready are k below = refl
-ends-alone (turn ∷ rest) world ready are k below =
-    let first = leaves world ready turn rest are in
+ends-alone [] world waits are k below = refl
+ends-alone (turn ∷ rest) world waits are k below =
+    let first = leaves world waits turn rest are in
     ap (alone k) (after-append step world (turn .events) (eventsOf rest))
-    ∙ ends-alone rest (after step world (turn .events)) (first .ready) (are-later world ready turn rest are) k (omega (arith, below, first .count))
+    ∙ ends-alone rest (after step world (turn .events)) (first .waits) (are-later world waits turn rest are) k (omega (arith, below, first .count))
     ∙ go (eqb (turn .chip) k) refl
   where
     go : (same : Bool) → eqb (turn .chip) k ≡ same
         → after step (alone k (after step world (turn .events))) (eventsOf (ownTurns k rest))
         ≡ after step (alone k world) (eventsOf (map ownTurn (cond same (turn .events ∷ turnsOf k rest) (turnsOf k rest))))
     go true is =
-        ap (λ (w : World). after step w (eventsOf (ownTurns k rest))) (own-next world ready turn rest are k (eqb-true _ _ is))
+        ap (λ (w : World). after step w (eventsOf (ownTurns k rest))) (own-next world waits turn rest are k (eqb-true _ _ is))
         ∙ sym (after-append step (alone k world) (map renamed (turn .events)) (eventsOf (ownTurns k rest)))
-    go false is = ap (λ (w : World). after step w (eventsOf (ownTurns k rest))) (other-next world ready turn rest are k below (eqb-false _ _ is))
+    go false is = ap (λ (w : World). after step w (eventsOf (ownTurns k rest))) (other-next world waits turn rest are k below (eqb-false _ _ is))
 
 -- the answers to the turns of chip k, in the list and alone
 module _ (k : ℕ) where
@@ -105,12 +111,12 @@ module _ (k : ℕ) where
   pub answers-alone : (turns : List Turn) (world : World) → Idling world → Turns world turns → k < world .0 .count
       → Same (turnsOf k turns) (inList world turns) (inOwn (alone k world) (turnsOf k turns))
   unfolding turnsOf answersOf
-  answers-alone [] world ready are below = λ j i usual. refl
-  answers-alone (turn ∷ rest) world ready are below =
-      let first = leaves world ready turn rest are in
+  answers-alone [] world waits are below = λ j i usual. refl
+  answers-alone (turn ∷ rest) world waits are below =
+      let first = leaves world waits turn rest are in
       subst (λ (one : List (List ℕ)). Same (turnsOf k (turn ∷ rest)) one (inOwn (alone k world) (turnsOf k (turn ∷ rest)))) (sym (answers-cut step world k turn rest))
       (go (eqb (turn .chip) k) refl
-      (answers-alone rest (after step world (turn .events)) (first .ready) (are-later world ready turn rest are) (omega (arith, below, first .count))))
+      (answers-alone rest (after step world (turn .events)) (first .waits) (are-later world waits turn rest are) (omega (arith, below, first .count))))
     where
       next : World
       next = after step world (turn .events)
@@ -124,6 +130,6 @@ module _ (k : ℕ) where
       go true is later =
           subst (Same (turn .events ∷ own) (answersTo step world (turn .events) ∷ inList next rest)) (sym (answers-cut step (alone k world) 0 (ownTurn (turn .events)) (map ownTurn own)))
           (same-more (turn .events) own (answersTo step world (turn .events)) (answersTo step (alone k world) (map renamed (turn .events))) (inList next rest) (inOwn (after step (alone k world) (map renamed (turn .events))) own)
-          (own-answers world ready turn rest are k (eqb-true _ _ is))
-          (subst (λ (w : World). Same own (inList next rest) (inOwn w own)) (own-next world ready turn rest are k (eqb-true _ _ is)) later))
-      go false is later = subst (λ (w : World). Same own (inList next rest) (inOwn w own)) (other-next world ready turn rest are k below (eqb-false _ _ is)) later
+          (own-answers world waits turn rest are k (eqb-true _ _ is))
+          (subst (λ (w : World). Same own (inList next rest) (inOwn w own)) (own-next world waits turn rest are k (eqb-true _ _ is)) later))
+      go false is later = subst (λ (w : World). Same own (inList next rest) (inOwn w own)) (other-next world waits turn rest are k below (eqb-false _ _ is)) later

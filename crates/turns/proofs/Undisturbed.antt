@@ -12,6 +12,7 @@ use Rattle.base.proofs.Fold.{and-left, and-right}
 use Rattle.board.specs.declared.Place.{Place}
 use Rattle.lineup.specs.Chips.{placesOf}
 use Rattle.bus.specs.Step.{step}
+use Rattle.bus.proofs.Typed.{has-four}
 use Rattle.promises.specs.Playing.{World, after, answersTo}
 use Rattle.turns.specs.Turn.{Turn, isTurn}
 use Rattle.turns.specs.Shuffle.{beganAt, areTurns, eventsOf, Shuffle, turnOf, answersOf, answerOf, isExcepted}
@@ -19,7 +20,7 @@ use Rattle.turns.specs.Alone.{alone, ownTurn, ownTurns}
 use Rattle.turns.specs.Playing.{ending}
 use Rattle.turns.specs.Benches.{ours}
 use Rattle.turns.specs.Undisturbed.{Turns, AsAlone, Undisturbed}
-use Rattle.turns.proofs.Entering.{Idling, idling, entering}
+use Rattle.turns.proofs.Entering.{Idling, idling}
 use Rattle.turns.proofs.Lists.{answer-at, excepted-inside, excepted-at, shuffle-turns}
 use Rattle.turns.proofs.Same.{same-world}
 use Rattle.turns.proofs.Turns.{turns-pass, ends-alone, answers-alone}
@@ -36,10 +37,10 @@ no-answers count places k (turn ∷ rest) answers are past =
 
 by-itself : (world : World) (turns : List Turn) → Idling world → Turns world turns → (k : ℕ) → k < world .0 .count
     → AsAlone k turns (ending step world turns) (ending step (alone k world) (ownTurns k turns))
-by-itself world turns ready are k below =
-    record { ends = ends-alone turns world ready are k below; answers = answers-alone k turns world ready are below }
+by-itself world turns waits are k below =
+    record { ends = ends-alone turns world waits are k below; answers = answers-alone k turns world waits are below }
 
-module _ (world : World) (turns others : List Turn) (ready : Idling world) (are : Turns world turns) (shuffle : Shuffle turns others) where
+module _ (world : World) (turns others : List Turn) (waits : Idling world) (are : Turns world turns) (shuffle : Shuffle turns others) where
   are-too : Turns world others
   are-too = shuffle-turns (world .0 .count) (placesOf (world .0 .chips)) turns others are shuffle
 
@@ -48,15 +49,15 @@ module _ (world : World) (turns others : List Turn) (ready : Idling world) (are 
 
   ends-same : after step world (eventsOf turns) ≡ after step world (eventsOf others)
   ends-same =
-      let one = turns-pass turns world ready are in
-      let other = turns-pass others world ready are-too in
-      same-world _ _ (one .ready .whole .four) (other .ready .whole .four) (one .count ∙ sym (other .count)) (one .ready .enters) (other .ready .enters)
+      let one = turns-pass turns world waits are in
+      let other = turns-pass others world waits are-too in
+      same-world _ _ (has-four (one .waits .entering .typed)) (has-four (other .waits .entering .typed)) (one .count ∙ sym (other .count)) (one .waits .entering .enters) (other .waits .entering .enters)
       (λ i past. one .rest i (omega (arith, past, one .count)) ∙ sym (other .rest i (omega (arith, past, one .count))))
       (λ k below.
       let there : k < world .0 .count = omega (arith, below, one .count) in
-      ends-alone turns world ready are k there
+      ends-alone turns world waits are k there
       ∙ ap (λ (own : List Turn). after step (alone k world) (eventsOf own)) (own-same k)
-      ∙ sym (ends-alone others world ready are-too k there))
+      ∙ sym (ends-alone others world waits are-too k there))
 
   answers-same : (k j i : ℕ) → isExcepted (turnOf k turns j) i ≡ false
       → answerOf k turns (answersTo step world (eventsOf turns)) j i ≡ answerOf k others (answersTo step world (eventsOf others)) j i
@@ -64,9 +65,9 @@ module _ (world : World) (turns others : List Turn) (ready : Idling world) (are 
     where
       go : Dec (k < world .0 .count) → answerOf k turns (answersTo step world (eventsOf turns)) j i ≡ answerOf k others (answersTo step world (eventsOf others)) j i
       go (yes p) =
-          by-itself world turns ready are k p .answers j i usual
+          by-itself world turns waits are k p .answers j i usual
           ∙ ap (λ (own : List Turn). answerOf 0 own (answersTo step (alone k world) (eventsOf own)) j i) (own-same k)
-          ∙ sym (by-itself world others ready are-too k p .answers j i (ap (λ (own : List (List ℕ)). isExcepted (getD own j []) i) (sym (shuffle k)) ∙ usual))
+          ∙ sym (by-itself world others waits are-too k p .answers j i (ap (λ (own : List (List ℕ)). isExcepted (getD own j []) i) (sym (shuffle k)) ∙ usual))
       go (no p) =
           rw (
             no-answers (world .0 .count) (placesOf (world .0 .chips)) k turns (answersTo step world (eventsOf turns)) are (omega arith),
@@ -77,9 +78,9 @@ pub undisturbed : Undisturbed ours
 undisturbed =
     record {
       shuffled = λ world turns others typed ready are shuffle.
-          let idle = idling typed ready in record { ends = ends-same world turns others idle are shuffle; answers = answers-same world turns others idle are shuffle };
+          let waits = idling typed ready in record { ends = ends-same world turns others waits are shuffle; answers = answers-same world turns others waits are shuffle };
       by-itself = λ world turns typed ready. by-itself world turns (idling typed ready);
       excepted = λ world turns typed ready are k j i is.
           answer-at k turns (answersTo step world (eventsOf turns)) j i (excepted-inside (turnOf k turns j) i is)
-          ∙ f8-acknowledged (eventsOf turns) world (entering (idling typed ready)) (beganAt k turns j + i) (excepted-at k turns j i is);
+          ∙ f8-acknowledged (eventsOf turns) world (idling typed ready .entering) (beganAt k turns j + i) (excepted-at k turns j i is);
     }

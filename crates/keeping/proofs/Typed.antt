@@ -1,5 +1,6 @@
--- Every event keeps a chip a value of its type, where it is well formed: its numbers are then inside their regions, what came from the host is
--- bytes, and its load has the length it had. By the relation that the checker itself has between values and what they denote.
+-- Every event keeps a chip a value of its type, where it is well formed: its numbers are then inside their regions, what came
+-- from the host is bytes, and its load has the length it had. By the relation that the checker itself has between values and
+-- what they denote.
 use Prim.Native.Nat.{ℕ, _<_}
 use native.Mathlib.Omega.{arith}
 use mathlib.Core.Bool.{Bool, true, false, _||_}

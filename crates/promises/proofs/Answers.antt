@@ -1,5 +1,6 @@
--- The answers of a run, as its caller finds them in the buffer: each is that of the step in the state that the events before it have led to, and
--- a reply is a byte, so that a word says which refusal was given. A refused step leads nowhere, so all else is as if it had not been there.
+-- The answers of a run, as its caller finds them in the buffer: each is that of the step in the state that the events before it
+-- have led to, and a reply is a byte, so that a word says which refusal was given. A refused step leads nowhere, so all else is
+-- as if it had not been there.
 use Prim.Native.Nat.{ℕ, suc, _+_, _*_, _<_}
 use native.Mathlib.Omega.{arith}
 use mathlib.Core.List.{List, [], _∷_, _++_}

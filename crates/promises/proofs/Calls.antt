@@ -1,6 +1,6 @@
--- What callers of `Bus::set_up`, `step` and `run` see, by the contracts alone: that a bus is a value of its type is nothing that a caller
--- is asked for, since a call is given such a value and hands one back. Of what a lent slice holds a call says nothing, so where a word is read
--- back out of the buffer the stores are asked to hold bytes.
+-- What callers of `Bus::set_up`, `step` and `run` see, by the contracts alone: that a bus is a value of its type is nothing
+-- that a caller is asked for, since a call is given such a value and hands one back. Of what a lent slice holds a call says
+-- nothing, so where a word is read back out of the buffer the stores are asked to hold bytes.
 use Prim.Native.Nat.{ℕ, _*_, _<_, _≤_}
 use mathlib.Core.List.{List, _∷_, _++_}
 use mathlib.Core.Logic.{_↔_}
@@ -131,9 +131,12 @@ pub record Returned (call : RunCall) (world : World) (events : List ℕ) : Type 
   pub ends : left call .0 ≡ after step world events
   pub answers : left call .1 ≡ answersTo step world events ++ drop (length events) (bufferOf call)
 
+pub world-typed : (call : RunCall) (world : World) (events : List ℕ) → Plays call world events → OfItsType (world .0)
+world-typed call world events plays = subst (λ (w : World). OfItsType (w .0)) (plays .from-there) (given-typed call)
+
 module _ (call : RunCall) (world : World) (events : List ℕ) (plays : Plays call world events) (enters : firstOf (entryChecks (world .0) (world .1) (world .2)) ≡ Passed) where
-  pub world-typed : OfItsType (world .0)
-  world-typed = subst (λ (w : World). OfItsType (w .0)) (plays .from-there) (given-typed call)
+  typed : OfItsType (world .0)
+  typed = world-typed call world events plays
 
   as-run : (call .result .verdict, leaves call) ≡ run (world .0) (world .1) (world .2) events (bufferOf call)
   as-run =
@@ -147,7 +150,7 @@ module _ (call : RunCall) (world : World) (events : List ℕ) (plays : Plays cal
   -- a run is its steps
   pub returned : Returned call world events
   returned =
-      let is = as-run ∙ run-is-its-steps (world .0) (world .1) (world .2) events (bufferOf call) world-typed passes in
+      let is = as-run ∙ run-is-its-steps (world .0) (world .1) (world .2) events (bufferOf call) typed passes in
       record {
         verdict = ap (λ (ran : Verdict × Tape). ran .0) is;
         ends = ap (λ (ran : Verdict × Tape). (ran .1 .0, ran .1 .1, ran .1 .2)) is;
@@ -157,7 +160,7 @@ module _ (call : RunCall) (world : World) (events : List ℕ) (plays : Plays cal
   pub a-run-keeps-the-bus-well-formed : firstOf (entryChecks (left call .0 .0) (left call .0 .1) (left call .0 .2)) ≡ Passed
   a-run-keeps-the-bus-well-formed =
       subst (λ (ran : Verdict × Tape). firstOf (entryChecks (ran .1 .0) (ran .1 .1) (ran .1 .2)) ≡ Passed) (sym as-run)
-      (run-keeps-the-bus-well-formed (world .0) (world .1) (world .2) events (bufferOf call) world-typed passes .0)
+      (run-keeps-the-bus-well-formed (world .0) (world .1) (world .2) events (bufferOf call) typed passes .0)
 
   -- "given exactly when", of the words that its caller finds in the buffer
   pub a-run-answers-exactly-when : AllBytes (world .1) → AllBytes (world .2) → (i : ℕ) → i < length events → (n : ℕ) → 0 < n
@@ -165,7 +168,7 @@ module _ (call : RunCall) (world : World) (events : List ℕ) (plays : Plays cal
       (getD (left call .1) i 0 ≡ n * 256) ↔ Given (stepChecks (now .0) (now .1) (now .2) (getD events i 0)) n
   a-run-answers-exactly-when in-array in-security i below n some =
       let there = ap (λ (ran : Verdict × Tape). getD (ran .1 .3) i 0) as-run in
-      let exactly = run-answers-exactly-when (world .0) (world .1) (world .2) world-typed events (bufferOf call) passes in-array in-security i below n some in
+      let exactly = run-answers-exactly-when (world .0) (world .1) (world .2) typed events (bufferOf call) passes in-array in-security i below n some in
       (λ word. exactly .0 (sym there ∙ word), λ holds. there ∙ exactly .1 holds)
 
 -- a call of a list with an event that it refuses, and a call of the list without it
@@ -177,5 +180,5 @@ a-refused-event-leaves-all-but-its-word world enters before word rest one other 
     let ran = as-run one world (before ++ (word ∷ rest)) plays enters in
     let ran′ = as-run other world (before ++ rest) plays′ enters in
     subst₂ (λ (x y : Verdict × Tape). (getD (x .1 .3) (length before) 0 ≡ n * 256) × ButForItsWord before rest (x .1) (y .1)) (sym ran) (sym ran′)
-    (refused-event-leaves-all-but-its-word (world .0) (world .1) (world .2) (world-typed one world (before ++ (word ∷ rest)) plays enters) before word rest (bufferOf one) (bufferOf other)
+    (refused-event-leaves-all-but-its-word (world .0) (world .1) (world .2) (world-typed one world (before ++ (word ∷ rest)) plays) before word rest (bufferOf one) (bufferOf other)
     (passes one world (before ++ (word ∷ rest)) plays enters) (passes other world (before ++ rest) plays′ enters) n some given)

@@ -1,5 +1,5 @@
--- Every event keeps a well-formed bus well formed, and a value of its type: each chip keeps its place and stays well formed by itself, and two chips stay side by
--- side, since an event reaches both, or it names one and moves it into no chip's way.
+-- Every event keeps a well-formed bus well formed, and a value of its type: each chip keeps its place and stays well formed by
+-- itself, and two chips stay side by side, since an event reaches both, or it names one and moves it into no chip's way.
 use Prim.Native.Nat.{ℕ, _<_}
 use native.Mathlib.Decide.{decLt}
 use native.Mathlib.Omega.{arith}

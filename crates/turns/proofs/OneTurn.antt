@@ -1,5 +1,5 @@
--- One turn on a bus that waits for turns: it waits again, the other chips and their shares are as they were, and chip k, its shares and the answers
--- are those of k alone on the line. All of demand 3 is made of this.
+-- One turn on a bus that waits for turns: it waits again, the other chips and their shares are as they were, and chip k, its
+-- shares and the answers are those of k alone on the line. All of demand 3 is made of this.
 use Prim.Native.Nat.{ℕ, zero, suc, _<_, _≤_}
 use native.Mathlib.Decide.{decLt}
 use native.Mathlib.Omega.{arith}

@@ -33,7 +33,7 @@ module _ (world : World) (ready : Ready world) (turns : List Turn) (are-turns : 
   back call {events} plays = returned call world events plays (ready .enters)
 
   typed : (call : RunCall) {events : List ℕ} → Plays call world events → OfItsType (world .0)
-  typed call {events} plays = world-typed call world events plays (ready .enters)
+  typed call {events} plays = world-typed call world events plays
 
   -- a call of a list of turns, and a call of a shuffle of it, each with a buffer of its own
   pub shuffled-runs : (others : List Turn) → Shuffle turns others → (one other : RunCall) → Plays one world (eventsOf turns) → Plays other world (eventsOf others)

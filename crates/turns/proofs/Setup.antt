@@ -1,5 +1,5 @@
--- Every bus that set-up lets through is one that turns may begin on: its chips are fresh, and a fresh chip is at rest. What a call of it hands
--- back is a value of its type.
+-- Every bus that set-up lets through is one that turns may begin on: its chips are fresh, and a fresh chip is at rest. What a
+-- call of it hands back is a value of its type.
 use Prim.Native.Nat.{ℕ, _<_, _^_}
 use native.Mathlib.Omega.{arith}
 use mathlib.Core.Bool.{true, false, false≢true}

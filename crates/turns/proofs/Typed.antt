@@ -1,5 +1,6 @@
--- Chips without a load that are values of their type, well formed or not: where part and strap are bytes, a fresh one is, in standby or busy and
--- with WP low or high; and so is a chip with another array counter. So a bus of one chip of a bus is of its type.
+-- Chips without a load that are values of their type, well formed or not: where part and strap are bytes, a fresh one is, in
+-- standby or busy and with WP low or high; and so is a chip with another array counter. So a bus of one chip of a bus is of its
+-- type.
 use Prim.Native.Nat.{ℕ, zero, suc, _<_, _^_}
 use mathlib.Core.Bool.{Bool, false}
 use mathlib.Core.List.{[], _∷_}

@@ -49,7 +49,8 @@ isSomeFree bus = anyBelow (λ (i : ℕ). not (isBusy (controlAt (bus .chips) i .
 abbrev pub acknowledge : Bus → ℕ
 acknowledge bus = wordOf 0 (cond (isSomeFree bus) 0x01 0x00)
 
--- demand 3 of a bench, over what it makes of single events; the bus is a value of its type, as the checker has it (no definition of ours says that)
+-- demand 3 of a bench, over what it makes of single events; the bus is a value of its type, as the checker has it (no
+-- definition of ours says that)
 pub record Undisturbed (bench : Bench) : Type 0 where
   pub shuffled : (world : World) (turns others : List Turn) → OfItsType (world .0) → Ready world → Turns world turns → Shuffle turns others
       → Alike turns others (ending bench world turns) (ending bench world others)

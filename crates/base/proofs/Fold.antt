@@ -1,4 +1,4 @@
--- The laws by which a loop meets `upTo`: where it begins, one turn more, where it ends. And what a test over every index, or
+-- The laws by which a loop meets `upTo`: where it begins, one iteration more, where it ends. And what a test over every index, or
 -- over some index, says of one index.
 use Prim.Native.Nat.{ℕ, zero, suc, _+_, _<_}
 use native.Mathlib.Decide.{decLt}
@@ -17,22 +17,22 @@ module _ {A : Type 0} (f : ℕ → A → A) where
 
   pub up-more : (n : ℕ) (a : A) {x y : A} → x ≡ upTo f n a → y ≡ f n x → y ≡ upTo f (n + 1) a
   unfolding upTo
-  up-more n a so-far turn = rw add-one (turn ∙ ap (f n) so-far)
+  up-more n a so-far iteration = rw add-one (iteration ∙ ap (f n) so-far)
 
-  -- what each turn keeps, the loop keeps
+  -- what each iteration keeps, the loop keeps
   pub up-keeps : (P : A → Type 0) → ((i : ℕ) (x : A) → P x → P (f i x)) → (n : ℕ) (a : A) → P a → P (upTo f n a)
   unfolding upTo
-  up-keeps P turn zero a start = start
-  up-keeps P turn (suc n) a start = turn n (upTo f n a) (up-keeps P turn n a start)
+  up-keeps P iteration zero a start = start
+  up-keeps P iteration (suc n) a start = iteration n (upTo f n a) (up-keeps P iteration n a start)
 
-  -- or what each turn below n keeps
+  -- or what each iteration below n keeps
   pub up-keeps-below : (P : A → Type 0) (n : ℕ) → ((i : ℕ) (x : A) → i < n → P x → P (f i x)) → (a : A) → P a → P (upTo f n a)
   unfolding upTo
-  up-keeps-below P zero turn a start = start
-  up-keeps-below P (suc n) turn a start =
-      turn n (upTo f n a) (omega arith) (up-keeps-below P n (λ i x below. turn i x (omega arith)) a start)
+  up-keeps-below P zero iteration a start = start
+  up-keeps-below P (suc n) iteration a start =
+      iteration n (upTo f n a) (omega arith) (up-keeps-below P n (λ i x below. iteration i x (omega arith)) a start)
 
-  -- two loops whose turns agree end alike
+  -- two loops whose iterations agree end alike
   pub up-same : (g : ℕ → A → A) (n : ℕ) → ((i : ℕ) (x : A) → i < n → f i x ≡ g i x) → (a : A) → upTo f n a ≡ upTo g n a
   unfolding upTo
   up-same g zero agree a = refl

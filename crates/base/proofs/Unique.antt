@@ -10,10 +10,10 @@ use Rattle.base.proofs.bit.bit_of.Kinds as bit-of-kinds
 use Rattle.base.proofs.bit.bit_of.Reads as bit-of-reads
 use Rattle.base.proofs.number.least.Kinds as least-kinds
 use Rattle.base.proofs.number.least.Reads as least-reads
-use Rattle.base.proofs.test.and.Kinds as and-kinds
-use Rattle.base.proofs.test.and.Reads as and-reads
-use Rattle.base.proofs.test.or.Kinds as or-kinds
-use Rattle.base.proofs.test.or.Reads as or-reads
+use Rattle.base.proofs.logic.and.Kinds as and-kinds
+use Rattle.base.proofs.logic.and.Reads as and-reads
+use Rattle.base.proofs.logic.or.Kinds as or-kinds
+use Rattle.base.proofs.logic.or.Reads as or-reads
 use Rattle.base.proofs.word.word_of.Kinds as word-of-kinds
 use Rattle.base.proofs.word.word_of.Reads as word-of-reads
 

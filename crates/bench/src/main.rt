@@ -1,8 +1,9 @@
 // The bench program: a transcript on standard input, answers on standard output (paper, "The transcript"). Words on the command line
-// name another board than the paper's. One bus state is held in `hold`, lent to each block and moved on where it stands.
+// name another board than the paper's. One bus state is held in `answer_input`, lent to each block and moved on where it stands.
+mod arguments;
 mod block;
-mod command;
 
+use arguments::read_arguments;
 use block::next_block;
 use block::read_block;
 use board::PLACES;
@@ -10,12 +11,11 @@ use board::Place;
 use board::shares::array_start;
 use board::shares::security_start;
 use bus::Bus;
-use command::board_asked;
 use conversation::converse;
 use factory::erased_arrays;
 use factory::erased_registers;
 use factory::mark_serials;
-use placing::asked::Asked;
+use placing::layout::Board;
 use refusal::Verdict;
 use refusal::number_of;
 ghost use Prim.Native.Nat.{_≤_};
@@ -26,7 +26,7 @@ const TAPE: usize = 20_480;
 const SAID: usize = 36_873;
 
 // The state stands here from the first block to the last.
-fn hold(bus: Bus, array: &mut [u8], security: &mut [u8], tape: &mut [u8], said: &mut [u8]) {
+fn answer_input(bus: Bus, array: &mut [u8], security: &mut [u8], tape: &mut [u8], said: &mut [u8]) {
     let mut held = bus;
     let mut block = read_block(tape, 0, u64::MAX);
     while block.more {
@@ -35,8 +35,8 @@ fn hold(bus: Bus, array: &mut [u8], security: &mut [u8], tape: &mut [u8], said: 
     }
 }
 
-// Sets the board up in memories of its size, and plays what comes.
-fn play(count: usize, places: [Place; PLACES], array: &mut [u8], security: &mut [u8]) {
+// Sets the board up in memories of its size, and answers what comes.
+fn serve(count: usize, places: [Place; PLACES], array: &mut [u8], security: &mut [u8]) {
     mark_serials(count, places, security);
     let set_up = Bus::set_up(count, places, array, security);
     let verdict = set_up.verdict;
@@ -45,7 +45,7 @@ fn play(count: usize, places: [Place; PLACES], array: &mut [u8], security: &mut 
         Verdict::Passed => {
             let mut tape = [0u8; TAPE];
             let mut said = [0u8; SAID];
-            hold(set_up.bus, array, security, &mut tape, &mut said);
+            answer_input(set_up.bus, array, security, &mut tape, &mut said);
         }
     }
 }
@@ -58,12 +58,12 @@ fn part_of(asked: usize, most: usize) -> usize
 }
 
 // Lends the board memories of its size.
-fn fit(asked: Asked, array: &mut [u8], security: &mut [u8]) {
-    let count = asked.count;
-    let places = asked.places;
+fn fit(board: Board, array: &mut [u8], security: &mut [u8]) {
+    let count = board.count;
+    let places = board.places;
     let array_end = part_of(array_start(count, places), array.len());
     let security_end = part_of(security_start(count, places), security.len());
-    play(
+    serve(
         count,
         places,
         &mut array[0..array_end],
@@ -72,12 +72,12 @@ fn fit(asked: Asked, array: &mut [u8], security: &mut [u8]) {
 }
 
 fn main() {
-    let words = board_asked();
-    if !words.known {
-        command::say_expected();
+    let arguments = read_arguments();
+    if !arguments.known {
+        arguments::say_expected();
         return;
     }
     let mut array = erased_arrays();
     let mut security = erased_registers();
-    fit(words.asked, &mut array, &mut security);
+    fit(arguments.board, &mut array, &mut security);
 }

@@ -10,24 +10,24 @@ use lib.Seq.{take-append-seam}
 use Rattle.base.specs.Fold.{upTo}
 use Rattle.refusal.specs.Refusal.{answerWord}
 use Rattle.bus.specs.Step.{step}
-use Rattle.transcript.specs.declared.line.Line.{Line}
-use Rattle.transcript.specs.declared.line.Line.the-variants.{Event, Malformed, End}
-use Rattle.transcript.specs.Line.{lineAt}
+use Rattle.transcript.specs.declared.frame.Frame.{Frame}
+use Rattle.transcript.specs.declared.frame.Frame.the-variants.{Event, Malformed, End}
+use Rattle.transcript.specs.Frame.{frameAt}
 use Rattle.print.specs.Print.{printed, closing}
-use Rattle.conversation.specs.Talk.{Talk, opened, unfinished, hearLine, hear, roomIn, Left, converse}
+use Rattle.conversation.specs.Talk.{Talk, opened, unfinished, hearFrame, hear, roomIn, Left, converse}
 use Rattle.blocks.specs.Session.{Session, atText, cameTo, block}
-use Rattle.blocks.proofs.Turns.{turns, put, at-rest, out-is, heard-turns, block-turns}
+use Rattle.blocks.proofs.Advances.{advances, put, at-rest, out-is, heard-advances, block-advances}
 
 -- ---- what was said before stays in front
 module _ (before text : List ℕ) where
   abbrev after : Talk → Talk
   after talk = record { bus = talk .bus; array = talk .array; security = talk .security; said = before ++ talk .said; at = talk .at; over = talk .over }
 
-  line-after : (talk : Talk) → hearLine text (after talk) ≡ after (hearLine text talk)
-  unfolding hearLine
-  line-after talk = go (lineAt text (talk .at)) refl (unfinished text (talk .at)) refl
+  frame-after : (talk : Talk) → hearFrame text (after talk) ≡ after (hearFrame text talk)
+  unfolding hearFrame
+  frame-after talk = go (frameAt text (talk .at)) refl (unfinished text (talk .at)) refl
     where
-      go : (line : Line) → lineAt text (talk .at) ≡ line → (part : Bool) → unfinished text (talk .at) ≡ part → hearLine text (after talk) ≡ after (hearLine text talk)
+      go : (frame : Frame) → frameAt text (talk .at) ≡ frame → (part : Bool) → unfinished text (talk .at) ≡ part → hearFrame text (after talk) ≡ after (hearFrame text talk)
       go (Event event next) e part f =
           rw (e, append-assoc before (talk .said) (printed event (answerWord (step (talk .bus) (talk .array) (talk .security) event .0 .answer)))) refl
       go Malformed e true f = rw (e, f) refl
@@ -37,7 +37,7 @@ module _ (before text : List ℕ) where
   hear-after : (n : ℕ) (talk : Talk) → hear text n (after talk) ≡ after (hear text n talk)
   unfolding upTo
   hear-after zero talk = refl
-  hear-after (suc n) talk = ap (hearLine text) (hear-after n talk) ∙ line-after (hear text n talk)
+  hear-after (suc n) talk = ap (hearFrame text) (hear-after n talk) ∙ frame-after (hear text n talk)
 
 -- ---- a conversation over what was kept and what is new
 module _ (new : List ℕ) (s : Session) (buffer : List ℕ) where
@@ -63,10 +63,10 @@ module _ (new : List ℕ) (s : Session) (buffer : List ℕ) where
       }
   unfolding converse
   converse-is-a-block going room =
-      let lines = roomIn buffer in
-      let said = hear text lines (opened (s .bus) (s .array) (s .security)) .said in
-      block-turns new s going
-      ∙ sym (out-is (put new s) (turns lines (put new s)) lines refl (at-rest (put new s) lines room))
-      ∙ sym (heard-turns new s going lines)
-      ∙ ap (cameTo text) (said-before lines)
+      let frames = roomIn buffer in
+      let said = hear text frames (opened (s .bus) (s .array) (s .security)) .said in
+      block-advances new s going
+      ∙ sym (out-is (put new s) (advances frames (put new s)) frames refl (at-rest (put new s) frames room))
+      ∙ sym (heard-advances new s going frames)
+      ∙ ap (cameTo text) (said-before frames)
       ∙ rw (take-append-seam said (drop (length said) buffer)) refl

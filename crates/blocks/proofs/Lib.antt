@@ -4,4 +4,4 @@ pub mod Cut
 pub mod Nine
 pub mod Said
 pub mod Texts
-pub mod Turns
+pub mod Advances

@@ -16,17 +16,17 @@ use Rattle.base.proofs.Fold.{and-left}
 use Rattle.refusal.specs.Refusal.{answerWord}
 use Rattle.bus.specs.declared.Bus.{Bus}
 use Rattle.bus.specs.Step.{step}
-use Rattle.transcript.specs.Line.{isLine, eventAt, lineAt}
-use Rattle.transcript.specs.declared.line.Line.{Line}
-use Rattle.transcript.specs.declared.line.Line.the-variants.{Event, Malformed, End}
-use Rattle.transcript.proofs.line.Laws.{event-exactly-when}
+use Rattle.transcript.specs.Frame.{isFrameAt, eventAt, frameAt}
+use Rattle.transcript.specs.declared.frame.Frame.{Frame}
+use Rattle.transcript.specs.declared.frame.Frame.the-variants.{Event, Malformed, End}
+use Rattle.transcript.proofs.frame.Laws.{event-exactly-when}
 use Rattle.print.specs.Print.{printed, closing}
-use Rattle.conversation.specs.Talk.{Talk, opened, unfinished, ended, hearLine, hear, roomIn, Left, laidOn, converse}
-use Rattle.conversation.specs.Turn.{finished}
+use Rattle.conversation.specs.Talk.{Talk, opened, unfinished, ended, hearFrame, hear, roomIn, Left, laidOn, converse}
+use Rattle.conversation.specs.Pending.{finished}
 use Rattle.conversation.specs.Whole.{finishedBy, answerAll}
 use Rattle.conversation.specs.declared.Heard.{Heard}
 use Rattle.conversation.proofs.Standing.{settled, length-laid, laid-more}
-use Rattle.blocks.specs.Lines.{Lines, NoLineAfter, MalformedAfter, TalkEnds, TalkPauses, WholeEnds, WholePauses, Spoken, unplayed, afterLines, pausedAfter, endedAfter, WholeLeft, withoutBus}
+use Rattle.blocks.specs.Frames.{Frames, NoFrameAfter, MalformedAfter, TalkEnds, TalkPauses, WholeEnds, WholePauses, Spoken, unplayed, afterFrames, pausedAfter, endedAfter, WholeLeft, withoutBus}
 use Rattle.blocks.proofs.Texts.{none-of, unfinished-exactly-when}
 
 either-way : {A : Type 0} (b : Bool) (a : A) → cond b a a ≡ a
@@ -44,8 +44,8 @@ nine-as-bytes = refl
 
 -- ---- what the tests say
 module _ (text : List ℕ) (at : ℕ) where
-  line-fits : isLine text at ≡ true → at + 5 ≤ length text
-  line-fits line = leb-true (at + 5) (length text) (and-left (leb (at + 5) (length text)) _ line)
+  frame-fits : isFrameAt text at ≡ true → at + 5 ≤ length text
+  frame-fits frame = leb-true (at + 5) (length text) (and-left (leb (at + 5) (length text)) _ frame)
 
   part-short : unfinished text at ≡ true → length text - at < 5
   part-short part = ltb-true (length text - at) 5 (and-left (ltb (length text - at) 5) _ part)
@@ -65,42 +65,42 @@ module _ (text : List ℕ) (at : ℕ) where
       go (yes past) = absurd (false≢true (sym never ∙ end-waits past))
       go (no inside) = omega arith
 
-lines-more : (text : List ℕ) (n : ℕ) → Lines text n → isLine text (n * 5) ≡ true → Lines text (suc n)
-lines-more text n lines line j below = go (decLt j n)
+frames-more : (text : List ℕ) (n : ℕ) → Frames text n → isFrameAt text (n * 5) ≡ true → Frames text (suc n)
+frames-more text n frames frame j below = go (decLt j n)
   where
-    go : Dec (j < n) → isLine text (j * 5) ≡ true
-    go (yes before) = lines j before
+    go : Dec (j < n) → isFrameAt text (j * 5) ≡ true
+    go (yes before) = frames j before
     go (no last) =
         let same : j ≡ n = omega arith in
-        ap (λ (i : ℕ). isLine text (i * 5)) same ∙ line
+        ap (λ (i : ℕ). isFrameAt text (i * 5)) same ∙ frame
 
 -- a text begins with n lines, or with fewer and then none
-lines-or-none : (text : List ℕ) (n : ℕ) → Lines text n ⊎ ((k : ℕ) × Lines text k × (k < n) × (isLine text (k * 5) ≡ false))
-lines-or-none text zero = inl (λ j below. absurd (omega arith))
-lines-or-none text (suc n) = go (lines-or-none text n) (isLine text (n * 5)) refl
+frames-or-none : (text : List ℕ) (n : ℕ) → Frames text n ⊎ ((k : ℕ) × Frames text k × (k < n) × (isFrameAt text (k * 5) ≡ false))
+frames-or-none text zero = inl (λ j below. absurd (omega arith))
+frames-or-none text (suc n) = go (frames-or-none text n) (isFrameAt text (n * 5)) refl
   where
-    go : Lines text n ⊎ ((k : ℕ) × Lines text k × (k < n) × (isLine text (k * 5) ≡ false)) → (line : Bool) → isLine text (n * 5) ≡ line
-        → Lines text (suc n) ⊎ ((k : ℕ) × Lines text k × (k < suc n) × (isLine text (k * 5) ≡ false))
-    go (inr (k, lines, below, none)) line e = inr (k, lines, omega arith, none)
-    go (inl lines) false e = inr (n, lines, omega arith, e)
-    go (inl lines) true e = inl (lines-more text n lines e)
+    go : Frames text n ⊎ ((k : ℕ) × Frames text k × (k < n) × (isFrameAt text (k * 5) ≡ false)) → (frame : Bool) → isFrameAt text (n * 5) ≡ frame
+        → Frames text (suc n) ⊎ ((k : ℕ) × Frames text k × (k < suc n) × (isFrameAt text (k * 5) ≡ false))
+    go (inr (k, frames, below, none)) frame e = inr (k, frames, omega arith, none)
+    go (inl frames) false e = inr (n, frames, omega arith, e)
+    go (inl frames) true e = inl (frames-more text n frames e)
 
-lines-fit : (text : List ℕ) (k : ℕ) → Lines text k → k * 5 ≤ length text
-lines-fit text zero lines = omega arith
-lines-fit text (suc k) lines = omega (arith, line-fits text (k * 5) (lines k (omega arith)))
+frames-fit : (text : List ℕ) (k : ℕ) → Frames text k → k * 5 ≤ length text
+frames-fit text zero frames = omega arith
+frames-fit text (suc k) frames = omega (arith, frame-fits text (k * 5) (frames k (omega arith)))
 
 -- what is malformed is what nothing behind it makes a line
 pub malformed-exactly-when : (text : List ℕ) (k : ℕ)
-    → MalformedAfter text k ↔ (Lines text k × ((more : List ℕ) → isLine (text ++ more) (k * 5) ≡ false))
+    → MalformedAfter text k ↔ (Frames text k × ((more : List ℕ) → isFrameAt (text ++ more) (k * 5) ≡ false))
 malformed-exactly-when text k = (
   λ bad.
-      let may = unfinished-exactly-when text (k * 5) (lines-fit text k (bad .no-line .lines)) (bad .no-line .none) in
-      (bad .no-line .lines, λ more. none-of (isLine (text ++ more) (k * 5)) (λ line. false≢true (sym (bad .never) ∙ may .1 (more, line)))),
-  λ (lines, no-more).
-      let none : isLine text (k * 5) ≡ false = ap (λ (t : List ℕ). isLine t (k * 5)) (sym (append-nil text)) ∙ no-more [] in
-      let may = unfinished-exactly-when text (k * 5) (lines-fit text k lines) none in
-      let never : unfinished text (k * 5) ≡ false = none-of (unfinished text (k * 5)) (λ part. let (more, line) = may .0 part in false≢true (sym (no-more more) ∙ line)) in
-      record { no-line = record { lines = lines; left = never-left text (k * 5) never; none = none }; never = never },
+      let may = unfinished-exactly-when text (k * 5) (frames-fit text k (bad .no-frame .frames)) (bad .no-frame .none) in
+      (bad .no-frame .frames, λ more. none-of (isFrameAt (text ++ more) (k * 5)) (λ frame. false≢true (sym (bad .never) ∙ may .1 (more, frame)))),
+  λ (frames, no-more).
+      let none : isFrameAt text (k * 5) ≡ false = ap (λ (t : List ℕ). isFrameAt t (k * 5)) (sym (append-nil text)) ∙ no-more [] in
+      let may = unfinished-exactly-when text (k * 5) (frames-fit text k frames) none in
+      let never : unfinished text (k * 5) ≡ false = none-of (unfinished text (k * 5)) (λ part. let (more, frame) = may .0 part in false≢true (sym (no-more more) ∙ frame)) in
+      record { no-frame = record { frames = frames; left = never-left text (k * 5) never; none = none }; never = never },
 )
 
 -- ---- the text has ended
@@ -121,22 +121,22 @@ module _ (text : List ℕ) (heard : Heard) (buffer : List ℕ) where
 -- ---- k lines, one after the other
 module _ (text : List ℕ) (bus : Bus) (array security : List ℕ) where
   abbrev after : ℕ → Spoken
-  after k = afterLines text k (unplayed bus array security)
+  after k = afterFrames text k (unplayed bus array security)
 
   -- where a conversation stands behind them
   abbrev behind : ℕ → Talk
   behind k = record { bus = after k .bus; array = after k .array; security = after k .security; said = after k .said; at = k * 5; over = false }
 
-  line-heard : (k : ℕ) → isLine text (k * 5) ≡ true → hearLine text (behind k) ≡ behind (suc k)
-  unfolding upTo hearLine
-  line-heard k line =
-      let reads : lineAt text (k * 5) ≡ Event (eventAt text (k * 5)) (suc k * 5) = event-exactly-when text (k * 5) _ _ .1 (line, refl, omega arith) in
+  frame-heard : (k : ℕ) → isFrameAt text (k * 5) ≡ true → hearFrame text (behind k) ≡ behind (suc k)
+  unfolding upTo hearFrame
+  frame-heard k frame =
+      let reads : frameAt text (k * 5) ≡ Event (eventAt text (k * 5)) (suc k * 5) = event-exactly-when text (k * 5) _ _ .1 (frame, refl, omega arith) in
       rw reads refl
 
-  lines-heard : (k : ℕ) → Lines text k → hear text k (opened bus array security) ≡ behind k
+  frames-heard : (k : ℕ) → Frames text k → hear text k (opened bus array security) ≡ behind k
   unfolding upTo
-  lines-heard zero lines = refl
-  lines-heard (suc k) lines = ap (hearLine text) (lines-heard k (λ j below. lines j (omega arith))) ∙ line-heard k (lines k (omega arith))
+  frames-heard zero frames = refl
+  frames-heard (suc k) frames = ap (hearFrame text) (frames-heard k (λ j below. frames j (omega arith))) ∙ frame-heard k (frames k (omega arith))
 
   -- nine bytes for each
   pub said-long : (k : ℕ) → length (after k .said) ≡ k * 9
@@ -148,24 +148,24 @@ module _ (text : List ℕ) (bus : Bus) (array security : List ℕ) where
       omega (arith, said-long k, length-append (world .said) (printed event (answerWord (step (world .bus) (world .array) (world .security) event .0 .answer))))
 
   -- a malformed line is heard
-  fault-heard : (k : ℕ) → MalformedAfter text k → hearLine text (behind k) ≡ ended text (behind k)
-  unfolding hearLine
-  fault-heard k bad = rw (lt-leb (length text) (k * 5) (bad .no-line .left), bad .no-line .none, bad .never) refl
+  fault-heard : (k : ℕ) → MalformedAfter text k → hearFrame text (behind k) ≡ ended text (behind k)
+  unfolding hearFrame
+  fault-heard k bad = rw (lt-leb (length text) (k * 5) (bad .no-frame .left), bad .no-frame .none, bad .never) refl
 
   -- and nothing behind it
-  ended-heard : (k : ℕ) → hearLine text (ended text (behind k)) ≡ ended text (behind k)
-  unfolding hearLine
+  ended-heard : (k : ℕ) → hearFrame text (ended text (behind k)) ≡ ended text (behind k)
+  unfolding hearFrame
   ended-heard k = rw (le-leb (length text) (length text) (omega arith)) refl
 
   -- what may become a line waits
-  part-heard : (k : ℕ) → unfinished text (k * 5) ≡ true → hearLine text (behind k) ≡ behind k
-  unfolding hearLine
-  part-heard k part = go (lineAt text (k * 5)) refl
+  part-heard : (k : ℕ) → unfinished text (k * 5) ≡ true → hearFrame text (behind k) ≡ behind k
+  unfolding hearFrame
+  part-heard k part = go (frameAt text (k * 5)) refl
     where
-      go : (line : Line) → lineAt text (k * 5) ≡ line → hearLine text (behind k) ≡ behind k
+      go : (frame : Frame) → frameAt text (k * 5) ≡ frame → hearFrame text (behind k) ≡ behind k
       go (Event event next) e =
-          let line = event-exactly-when text (k * 5) event next .0 e .0 in
-          absurd (omega (arith, line-fits text (k * 5) line, part-short text (k * 5) part))
+          let frame = event-exactly-when text (k * 5) event next .0 e .0 in
+          absurd (omega (arith, frame-fits text (k * 5) frame, part-short text (k * 5) part))
       go Malformed e = rw (e, part) refl
       go End e = rw e refl
 
@@ -178,46 +178,46 @@ module _ (text : List ℕ) (bus : Bus) (array security : List ℕ) where
     pub converse-ends : (k : ℕ) → MalformedAfter text k → k + 1 ≤ roomIn buffer → talked ≡ endedAfter text k (after k) buffer
     unfolding converse upTo
     converse-ends k bad room =
-        let next : hear text (suc k) (opened bus array security) ≡ ended text (behind k) = ap (hearLine text) (lines-heard k (bad .no-line .lines)) ∙ fault-heard k bad in
+        let next : hear text (suc k) (opened bus array security) ≡ ended text (behind k) = ap (hearFrame text) (frames-heard k (bad .no-frame .frames)) ∙ fault-heard k bad in
         let last : hear text (roomIn buffer) (opened bus array security) ≡ ended text (behind k) =
-        settled text bus array security buffer (roomIn buffer) (suc k) (omega arith) (ap (hearLine text) next ∙ ended-heard k ∙ sym next) ∙ next in
+        settled text bus array security buffer (roomIn buffer) (suc k) (omega arith) (ap (hearFrame text) next ∙ ended-heard k ∙ sym next) ∙ next in
         let long : length (after k .said ++ closing 9) ≡ (k + 1) * 9 = omega (arith, length-append (after k .said) (closing 9), said-long k) in
         rw (last, long) refl
 
-    converse-waits : (k : ℕ) → Lines text k → k ≤ roomIn buffer → unfinished text (k * 5) ≡ true → talked ≡ pausedAfter k (after k) buffer
+    converse-waits : (k : ℕ) → Frames text k → k ≤ roomIn buffer → unfinished text (k * 5) ≡ true → talked ≡ pausedAfter k (after k) buffer
     unfolding converse
-    converse-waits k lines room part =
-        let here = lines-heard k lines in
+    converse-waits k frames room part =
+        let here = frames-heard k frames in
         let last : hear text (roomIn buffer) (opened bus array security) ≡ behind k =
-        settled text bus array security buffer (roomIn buffer) k room (ap (hearLine text) here ∙ part-heard k part ∙ sym here) ∙ here in
+        settled text bus array security buffer (roomIn buffer) k room (ap (hearFrame text) here ∙ part-heard k part ∙ sym here) ∙ here in
         rw (last, said-long k) refl
 
-    converse-full : (k : ℕ) → Lines text k → k ≡ roomIn buffer → talked ≡ pausedAfter k (after k) buffer
+    converse-full : (k : ℕ) → Frames text k → k ≡ roomIn buffer → talked ≡ pausedAfter k (after k) buffer
     unfolding converse
-    converse-full k lines full = rw (sym full, lines-heard k lines, said-long k) refl
+    converse-full k frames full = rw (sym full, frames-heard k frames, said-long k) refl
 
     -- where the room is used up, or what is left may still become a line: the lines before it are answered
-    pub converse-pauses : (k : ℕ) → Lines text k → k ≤ roomIn buffer → (k ≡ roomIn buffer) ⊎ (unfinished text (k * 5) ≡ true)
+    pub converse-pauses : (k : ℕ) → Frames text k → k ≤ roomIn buffer → (k ≡ roomIn buffer) ⊎ (unfinished text (k * 5) ≡ true)
         → talked ≡ pausedAfter k (after k) buffer
-    converse-pauses k lines room (inl full) = converse-full k lines full
-    converse-pauses k lines room (inr part) = converse-waits k lines room part
+    converse-pauses k frames room (inl full) = converse-full k frames full
+    converse-pauses k frames room (inr part) = converse-waits k frames room part
 
     pub talk-ends-or-pauses : TalkEnds text buffer ⊎ TalkPauses text buffer
-    talk-ends-or-pauses = go (lines-or-none text (roomIn buffer))
+    talk-ends-or-pauses = go (frames-or-none text (roomIn buffer))
       where
-        at : (k : ℕ) → Lines text k → k < roomIn buffer → isLine text (k * 5) ≡ false → (part : Bool) → unfinished text (k * 5) ≡ part → TalkEnds text buffer ⊎ TalkPauses text buffer
-        at k lines below none true e = inr (k, lines, omega arith, inr e)
-        at k lines below none false e = inl (k, record { no-line = record { lines = lines; left = never-left text (k * 5) e; none = none }; never = e }, omega arith)
+        at : (k : ℕ) → Frames text k → k < roomIn buffer → isFrameAt text (k * 5) ≡ false → (part : Bool) → unfinished text (k * 5) ≡ part → TalkEnds text buffer ⊎ TalkPauses text buffer
+        at k frames below none true e = inr (k, frames, omega arith, inr e)
+        at k frames below none false e = inl (k, record { no-frame = record { frames = frames; left = never-left text (k * 5) e; none = none }; never = e }, omega arith)
 
-        go : Lines text (roomIn buffer) ⊎ ((k : ℕ) × Lines text k × (k < roomIn buffer) × (isLine text (k * 5) ≡ false)) → TalkEnds text buffer ⊎ TalkPauses text buffer
-        go (inl lines) = inr (roomIn buffer, lines, omega arith, inl refl)
-        go (inr (k, lines, below, none)) = at k lines below none (unfinished text (k * 5)) refl
+        go : Frames text (roomIn buffer) ⊎ ((k : ℕ) × Frames text k × (k < roomIn buffer) × (isFrameAt text (k * 5) ≡ false)) → TalkEnds text buffer ⊎ TalkPauses text buffer
+        go (inl frames) = inr (roomIn buffer, frames, omega arith, inl refl)
+        go (inr (k, frames, below, none)) = at k frames below none (unfinished text (k * 5)) refl
 
     converse-either : ((talked .0 .over ≡ true) ↔ TalkEnds text buffer) × ((talked .0 .over ≡ false) ↔ TalkPauses text buffer)
     converse-either =
         told-apart talk-ends-or-pauses
         (λ (k, bad, room). ap (λ (l : Left). l .0 .over) (converse-ends k bad room))
-        (λ (k, lines, room, stop). ap (λ (l : Left). l .0 .over) (converse-pauses k lines room stop))
+        (λ (k, frames, room, stop). ap (λ (l : Left). l .0 .over) (converse-pauses k frames room stop))
         (λ over going. false≢true (sym going ∙ over))
 
     pub converse-ends-exactly-when : (talked .0 .over ≡ true) ↔ TalkEnds text buffer
@@ -230,20 +230,20 @@ module _ (text : List ℕ) (bus : Bus) (array security : List ℕ) where
     pub converse-ends-with-room : length text ≤ roomIn buffer * 5 → (talked .0 .over ≡ true) ↔ ((k : ℕ) × MalformedAfter text k)
     converse-ends-with-room enough = (
       λ over. let (k, bad, room) = converse-ends-exactly-when .0 over in (k, bad),
-      λ (k, bad). converse-ends-exactly-when .1 (k, bad, omega (arith, bad .no-line .left)),
+      λ (k, bad). converse-ends-exactly-when .1 (k, bad, omega (arith, bad .no-frame .left)),
     )
 
     -- and if none does, all lines are answered, and what is left may still become one
     pub converse-answers-all : length text ≤ roomIn buffer * 5 → talked .0 .over ≡ false
-        → (k : ℕ) × Lines text k × (unfinished text (k * 5) ≡ true) × (talked ≡ pausedAfter k (after k) buffer)
+        → (k : ℕ) × Frames text k × (unfinished text (k * 5) ≡ true) × (talked ≡ pausedAfter k (after k) buffer)
     converse-answers-all enough going = go (converse-pauses-exactly-when .0 going)
       where
         rest : (k : ℕ) → (k ≡ roomIn buffer) ⊎ (unfinished text (k * 5) ≡ true) → unfinished text (k * 5) ≡ true
         rest k (inl full) = end-waits text (k * 5) (omega arith)
         rest k (inr part) = part
 
-        go : TalkPauses text buffer → (k : ℕ) × Lines text k × (unfinished text (k * 5) ≡ true) × (talked ≡ pausedAfter k (after k) buffer)
-        go (k, lines, room, stop) = (k, lines, rest k stop, converse-pauses k lines room stop)
+        go : TalkPauses text buffer → (k : ℕ) × Frames text k × (unfinished text (k * 5) ≡ true) × (talked ≡ pausedAfter k (after k) buffer)
+        go (k, frames, room, stop) = (k, frames, rest k stop, converse-pauses k frames room stop)
 
     -- ---- and a whole transcript
     abbrev answered : WholeLeft
@@ -258,48 +258,48 @@ module _ (text : List ℕ) (bus : Bus) (array security : List ℕ) where
     laid-long k room = length-laid buffer (after k .said) (omega (arith, said-long k))
 
     -- where no line is left behind the others: they are answered, then FFFF0900 is said
-    pub answer-all-ends : (k : ℕ) → NoLineAfter text k → k + 1 ≤ roomIn buffer → answered ≡ withoutBus (endedAfter text k (after k) buffer)
+    pub answer-all-ends : (k : ℕ) → NoFrameAfter text k → k + 1 ≤ roomIn buffer → answered ≡ withoutBus (endedAfter text k (after k) buffer)
     answer-all-ends k bad room = go (unfinished text (k * 5)) refl
       where
         go : (part : Bool) → unfinished text (k * 5) ≡ part → answered ≡ withoutBus (endedAfter text k (after k) buffer)
         go false e =
             let left = endedAfter text k (after k) buffer in
-            finishes left (left .0, left .4) (converse-ends k (record { no-line = bad; never = e }) room) (nothing-left text (left .0) (left .4) (omega arith))
+            finishes left (left .0, left .4) (converse-ends k (record { no-frame = bad; never = e }) room) (nothing-left text (left .0) (left .4) (omega arith))
         go true e =
             let left = pausedAfter k (after k) buffer in
             let end = endedAfter text k (after k) buffer in
             let more : k * 9 + 9 ≡ (k + 1) * 9 = omega arith in
             let put : patched (k * 9) (closing 9) (left .4) ≡ end .4 = ap (λ (n : ℕ). patched n (closing 9) (left .4)) (sym (said-long k)) ∙ laid-more buffer (after k .said) (closing 9) in
-            finishes left (end .0, end .4) (converse-waits k (bad .lines) (omega arith) e)
+            finishes left (end .0, end .4) (converse-waits k (bad .frames) (omega arith) e)
             (rest-left text (left .0) (left .4) (bad .left) (omega (arith, laid-long k (omega arith)))
             ∙ rw (more, put) refl)
 
     -- where the room is used up, or nothing is left: the lines before it are answered
-    pub answer-all-pauses : (k : ℕ) → Lines text k → k ≤ roomIn buffer → (k ≡ roomIn buffer) ⊎ (k * 5 ≡ length text)
+    pub answer-all-pauses : (k : ℕ) → Frames text k → k ≤ roomIn buffer → (k ≡ roomIn buffer) ⊎ (k * 5 ≡ length text)
         → answered ≡ withoutBus (pausedAfter k (after k) buffer)
-    answer-all-pauses k lines room (inl full) =
+    answer-all-pauses k frames room (inl full) =
         let left = pausedAfter k (after k) buffer in
-        finishes left (left .0, left .4) (converse-full k lines full) (no-room text (left .0) (left .4) (omega (arith, laid-long k room)))
-    answer-all-pauses k lines room (inr all) =
+        finishes left (left .0, left .4) (converse-full k frames full) (no-room text (left .0) (left .4) (omega (arith, laid-long k room)))
+    answer-all-pauses k frames room (inr all) =
         let left = pausedAfter k (after k) buffer in
-        finishes left (left .0, left .4) (converse-waits k lines room (end-waits text (k * 5) (omega arith))) (nothing-left text (left .0) (left .4) (omega arith))
+        finishes left (left .0, left .4) (converse-waits k frames room (end-waits text (k * 5) (omega arith))) (nothing-left text (left .0) (left .4) (omega arith))
 
     pub whole-ends-or-pauses : WholeEnds text buffer ⊎ WholePauses text buffer
-    whole-ends-or-pauses = go (lines-or-none text (roomIn buffer))
+    whole-ends-or-pauses = go (frames-or-none text (roomIn buffer))
       where
-        at : (k : ℕ) → Lines text k → k < roomIn buffer → isLine text (k * 5) ≡ false → Dec (length text ≤ k * 5) → WholeEnds text buffer ⊎ WholePauses text buffer
-        at k lines below none (yes past) = inr (k, lines, omega arith, inr (omega (arith, lines-fit text k lines)))
-        at k lines below none (no inside) = inl (k, record { lines = lines; left = omega arith; none = none }, omega arith)
+        at : (k : ℕ) → Frames text k → k < roomIn buffer → isFrameAt text (k * 5) ≡ false → Dec (length text ≤ k * 5) → WholeEnds text buffer ⊎ WholePauses text buffer
+        at k frames below none (yes past) = inr (k, frames, omega arith, inr (omega (arith, frames-fit text k frames)))
+        at k frames below none (no inside) = inl (k, record { frames = frames; left = omega arith; none = none }, omega arith)
 
-        go : Lines text (roomIn buffer) ⊎ ((k : ℕ) × Lines text k × (k < roomIn buffer) × (isLine text (k * 5) ≡ false)) → WholeEnds text buffer ⊎ WholePauses text buffer
-        go (inl lines) = inr (roomIn buffer, lines, omega arith, inl refl)
-        go (inr (k, lines, below, none)) = at k lines below none (decLe (length text) (k * 5))
+        go : Frames text (roomIn buffer) ⊎ ((k : ℕ) × Frames text k × (k < roomIn buffer) × (isFrameAt text (k * 5) ≡ false)) → WholeEnds text buffer ⊎ WholePauses text buffer
+        go (inl frames) = inr (roomIn buffer, frames, omega arith, inl refl)
+        go (inr (k, frames, below, none)) = at k frames below none (decLe (length text) (k * 5))
 
     answer-all-either : ((answered .0 .over ≡ true) ↔ WholeEnds text buffer) × ((answered .0 .over ≡ false) ↔ WholePauses text buffer)
     answer-all-either =
         told-apart whole-ends-or-pauses
         (λ (k, bad, room). ap (λ (l : WholeLeft). l .0 .over) (answer-all-ends k bad room))
-        (λ (k, lines, room, stop). ap (λ (l : WholeLeft). l .0 .over) (answer-all-pauses k lines room stop))
+        (λ (k, frames, room, stop). ap (λ (l : WholeLeft). l .0 .over) (answer-all-pauses k frames room stop))
         (λ over going. false≢true (sym going ∙ over))
 
     pub answer-all-ends-exactly-when : (answered .0 .over ≡ true) ↔ WholeEnds text buffer
@@ -309,7 +309,7 @@ module _ (text : List ℕ) (bus : Bus) (array security : List ℕ) where
     answer-all-pauses-exactly-when = answer-all-either .1
 
     -- with that room anything that is no line ends it
-    pub answer-all-ends-with-room : length text ≤ roomIn buffer * 5 → (answered .0 .over ≡ true) ↔ ((k : ℕ) × NoLineAfter text k)
+    pub answer-all-ends-with-room : length text ≤ roomIn buffer * 5 → (answered .0 .over ≡ true) ↔ ((k : ℕ) × NoFrameAfter text k)
     answer-all-ends-with-room enough = (
       λ over. let (k, bad, room) = answer-all-ends-exactly-when .0 over in (k, bad),
       λ (k, bad). answer-all-ends-exactly-when .1 (k, bad, omega (arith, bad .left)),
@@ -317,12 +317,12 @@ module _ (text : List ℕ) (bus : Bus) (array security : List ℕ) where
 
     -- and if nothing does, all lines are answered, and nothing is left
     pub answer-all-answers-all : length text ≤ roomIn buffer * 5 → answered .0 .over ≡ false
-        → (k : ℕ) × Lines text k × (k * 5 ≡ length text) × (answered ≡ withoutBus (pausedAfter k (after k) buffer))
+        → (k : ℕ) × Frames text k × (k * 5 ≡ length text) × (answered ≡ withoutBus (pausedAfter k (after k) buffer))
     answer-all-answers-all enough going = go (answer-all-pauses-exactly-when .0 going)
       where
-        rest : (k : ℕ) → Lines text k → (k ≡ roomIn buffer) ⊎ (k * 5 ≡ length text) → k * 5 ≡ length text
-        rest k lines (inl full) = omega (arith, lines-fit text k lines)
-        rest k lines (inr all) = all
+        rest : (k : ℕ) → Frames text k → (k ≡ roomIn buffer) ⊎ (k * 5 ≡ length text) → k * 5 ≡ length text
+        rest k frames (inl full) = omega (arith, frames-fit text k frames)
+        rest k frames (inr all) = all
 
-        go : WholePauses text buffer → (k : ℕ) × Lines text k × (k * 5 ≡ length text) × (answered ≡ withoutBus (pausedAfter k (after k) buffer))
-        go (k, lines, room, stop) = (k, lines, rest k lines stop, answer-all-pauses k lines room stop)
+        go : WholePauses text buffer → (k : ℕ) × Frames text k × (k * 5 ≡ length text) × (answered ≡ withoutBus (pausedAfter k (after k) buffer))
+        go (k, frames, room, stop) = (k, frames, rest k frames stop, answer-all-pauses k frames room stop)

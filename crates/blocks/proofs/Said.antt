@@ -19,12 +19,12 @@ use Rattle.refusal.specs.Checks.{firstOf}
 use Rattle.refusal.specs.declared.Refusal.the-variants.{NotWellFormed, WrongLength}
 use Rattle.bus.specs.declared.Bus.{Bus}
 use Rattle.bus.specs.Step.{entryChecks, eventChecks, stepBy, step}
-use Rattle.transcript.specs.Line.{eventAt}
+use Rattle.transcript.specs.Frame.{eventAt}
 use Rattle.print.specs.Print.{digitText, printed, closing}
 use Rattle.conversation.specs.declared.Heard.{Heard}
 use Rattle.conversation.specs.Talk.{Left, laidOn, converse}
 use Rattle.conversation.specs.Whole.{answerAll}
-use Rattle.blocks.specs.Lines.{TalkEnds, WholeEnds, Spoken, unplayed, afterLines, WholeLeft, SaysNine}
+use Rattle.blocks.specs.Frames.{TalkEnds, WholeEnds, Spoken, unplayed, afterFrames, WholeLeft, SaysNine}
 use Rattle.base.proofs.Store.{span-front}
 use Rattle.blocks.proofs.Nine.{told-apart, said-long, converse-ends, converse-pauses, talk-ends-or-pauses, answer-all-ends, answer-all-pauses, whole-ends-or-pauses}
 
@@ -67,7 +67,7 @@ module _ (bus : Bus) (array security : List ℕ) (event : ℕ) where
 
 module _ (text : List ℕ) (bus : Bus) (array security : List ℕ) where
   abbrev after : ℕ → Spoken
-  after k = afterLines text k (unplayed bus array security)
+  after k = afterFrames text k (unplayed bus array security)
 
   abbrev answerOf : ℕ → List ℕ
   answerOf j = answer (after j .bus) (after j .array) (after j .security) (eventAt text (j * 5))
@@ -119,7 +119,7 @@ module _ (text : List ℕ) (bus : Bus) (array security : List ℕ) where
     converse-says-nine-exactly-when =
         says-nine-when (talked .0) (talked .4) (talk-ends-or-pauses text bus array security buffer)
         (λ (k, bad, room). let left = converse-ends text bus array security buffer k bad room in (k, ap (λ (l : Left). l .0 .written) left, ap (λ (l : Left). l .4) left))
-        (λ (k, lines, room, stop). let left = converse-pauses text bus array security buffer k lines room stop in (k, ap (λ (l : Left). l .0 .written) left, ap (λ (l : Left). l .4) left))
+        (λ (k, frames, room, stop). let left = converse-pauses text bus array security buffer k frames room stop in (k, ap (λ (l : Left). l .0 .written) left, ap (λ (l : Left). l .4) left))
 
     abbrev answered : WholeLeft
     answered = answerAll text bus array security buffer
@@ -128,4 +128,4 @@ module _ (text : List ℕ) (bus : Bus) (array security : List ℕ) where
     answer-all-says-nine-exactly-when =
         says-nine-when (answered .0) (answered .3) (whole-ends-or-pauses text bus array security buffer)
         (λ (k, bad, room). let left = answer-all-ends text bus array security buffer k bad room in (k, ap (λ (l : WholeLeft). l .0 .written) left, ap (λ (l : WholeLeft). l .3) left))
-        (λ (k, lines, room, stop). let left = answer-all-pauses text bus array security buffer k lines room stop in (k, ap (λ (l : WholeLeft). l .0 .written) left, ap (λ (l : WholeLeft). l .3) left))
+        (λ (k, frames, room, stop). let left = answer-all-pauses text bus array security buffer k frames room stop in (k, ap (λ (l : WholeLeft). l .0 .written) left, ap (λ (l : WholeLeft). l .3) left))

@@ -14,7 +14,7 @@ use lib.Seq.{drop-append-le, getD-drop}
 use borrow.Author.Tests.{le-leb, leb-true, lt-ltb, ltb-true}
 use Rattle.base.specs.Fold.{allBelow}
 use Rattle.transcript.specs.Digit.{digitOf, isDigit}
-use Rattle.transcript.specs.Line.{isLine, eventAt}
+use Rattle.transcript.specs.Frame.{isFrameAt, eventAt}
 use Rattle.conversation.specs.Talk.{unfinished}
 use Rattle.base.proofs.Fold.{and-left, and-right, and-both, all-each, all-at}
 
@@ -44,8 +44,8 @@ module _ (text : List ℕ) where
   abbrev digitAt : ℕ → Bool
   digitAt i = isDigit (getD text i 0)
 
-  pub line-long : isLine text 0 ≡ true → 5 ≤ length text
-  line-long line = leb-true 5 (length text) (and-left (leb 5 (length text)) _ line)
+  pub frame-long : isFrameAt text 0 ≡ true → 5 ≤ length text
+  frame-long frame = leb-true 5 (length text) (and-left (leb 5 (length text)) _ frame)
 
   unfinished-short : unfinished text 0 ≡ true → length text < 5
   unfinished-short part =
@@ -62,8 +62,8 @@ module _ (text : List ℕ) where
       (all-each (λ (k : ℕ). isDigit (getD text (0 + k) 0)) (length text - 0) (λ i below. rw zero-add (each i (omega arith))))
 
   -- a line is four digits first
-  line-digits : isLine text 0 ≡ true → (i : ℕ) → i < 4 → digitAt i ≡ true
-  line-digits line i below = digit i below (first-four (digitAt 0) (digitAt 1) (digitAt 2) (digitAt 3) _ (and-right (leb 5 (length text)) _ line))
+  frame-digits : isFrameAt text 0 ≡ true → (i : ℕ) → i < 4 → digitAt i ≡ true
+  frame-digits frame i below = digit i below (first-four (digitAt 0) (digitAt 1) (digitAt 2) (digitAt 3) _ (and-right (leb 5 (length text)) _ frame))
     where
       digit : (i : ℕ) → i < 4 → AllFour (digitAt 0) (digitAt 1) (digitAt 2) (digitAt 3) → digitAt i ≡ true
       digit zero below all = all .0
@@ -78,7 +78,7 @@ module _ (text more : List ℕ) where
   byte-stays i below = List·getD-append text more 0 i below
 
   -- five bytes decide
-  whole-stays : 5 ≤ length text → isLine (text ++ more) 0 ≡ isLine text 0
+  whole-stays : 5 ≤ length text → isFrameAt (text ++ more) 0 ≡ isFrameAt text 0
   whole-stays long =
       rw (
         le-leb 5 (length text) long,
@@ -90,12 +90,12 @@ module _ (text more : List ℕ) where
         byte-stays 4 (omega arith),
       ) refl
 
-  pub line-stays : isLine text 0 ≡ true → isLine (text ++ more) 0 ≡ true
-  line-stays line = whole-stays (line-long text line) ∙ line
+  pub frame-stays : isFrameAt text 0 ≡ true → isFrameAt (text ++ more) 0 ≡ true
+  frame-stays frame = whole-stays (frame-long text frame) ∙ frame
 
-  pub event-stays : isLine text 0 ≡ true → eventAt (text ++ more) 0 ≡ eventAt text 0
-  event-stays line =
-      let long = line-long text line in
+  pub event-stays : isFrameAt text 0 ≡ true → eventAt (text ++ more) 0 ≡ eventAt text 0
+  event-stays frame =
+      let long = frame-long text frame in
       rw (byte-stays 0 (omega arith), byte-stays 1 (omega arith), byte-stays 2 (omega arith), byte-stays 3 (omega arith)) refl
 
   -- the start of what may become a line may become a line
@@ -106,16 +106,16 @@ module _ (text more : List ℕ) where
       (λ i below. rw (byte-stays i below) at (unfinished-digits (text ++ more) part i (omega (arith, length-append text more))))
 
   -- and so may the start of a line
-  line-front : isLine text 0 ≡ false → isLine (text ++ more) 0 ≡ true → unfinished text 0 ≡ true
-  line-front none line = go (decLe 5 (length text))
+  frame-front : isFrameAt text 0 ≡ false → isFrameAt (text ++ more) 0 ≡ true → unfinished text 0 ≡ true
+  frame-front none frame = go (decLe 5 (length text))
     where
       go : Dec (5 ≤ length text) → unfinished text 0 ≡ true
-      go (yes long) = absurd (false≢true (sym none ∙ sym (whole-stays long) ∙ line))
-      go (no short) = short-digits text (omega arith) (λ i below. rw (byte-stays i below) at (line-digits (text ++ more) line i (omega arith)))
+      go (yes long) = absurd (false≢true (sym none ∙ sym (whole-stays long) ∙ frame))
+      go (no short) = short-digits text (omega arith) (λ i below. rw (byte-stays i below) at (frame-digits (text ++ more) frame i (omega arith)))
 
-  pub fault-stays : isLine text 0 ≡ false → unfinished text 0 ≡ false → (isLine (text ++ more) 0 ≡ false) × (unfinished (text ++ more) 0 ≡ false)
+  pub fault-stays : isFrameAt text 0 ≡ false → unfinished text 0 ≡ false → (isFrameAt (text ++ more) 0 ≡ false) × (unfinished (text ++ more) 0 ≡ false)
   fault-stays none never = (
-    none-of (isLine (text ++ more) 0) (λ line. false≢true (sym never ∙ line-front none line)),
+    none-of (isFrameAt (text ++ more) 0) (λ frame. false≢true (sym never ∙ frame-front none frame)),
     none-of (unfinished (text ++ more) 0) (λ part. false≢true (sym never ∙ unfinished-front part)),
   )
 
@@ -134,8 +134,8 @@ module _ (text : List ℕ) (at : ℕ) where
       (λ long. le-leb (at + 5) (length text) (omega (arith, leb-true 5 (length (drop at text)) long, left)))
       (λ long. le-leb 5 (length (drop at text)) (omega (arith, leb-true (at + 5) (length text) long, left)))
 
-  pub line-from : isLine (drop at text) 0 ≡ isLine text at
-  line-from = rw (fits-from, byte-from, getD-drop at text 1 0, getD-drop at text 2 0, getD-drop at text 3 0, getD-drop at text 4 0) refl
+  pub frame-from : isFrameAt (drop at text) 0 ≡ isFrameAt text at
+  frame-from = rw (fits-from, byte-from, getD-drop at text 1 0, getD-drop at text 2 0, getD-drop at text 3 0, getD-drop at text 4 0) refl
 
   each-from : (i : ℕ) → getD (drop at text) (0 + i) 0 ≡ getD text (at + i) 0
   each-from i = rw zero-add (getD-drop at text i 0)
@@ -147,7 +147,7 @@ module _ (text : List ℕ) (at : ℕ) where
       ∙ ap (λ (test : ℕ → Bool). ltb (length text - at) 5 && allBelow test (length text - at)) (λ k i. isDigit (each-from i k))
 
 -- ---- what may still become a line is what some text behind it makes one: zeros up to four digits, and LF
-digits-become : (part : List ℕ) → unfinished part 0 ≡ true → (more : List ℕ) × (isLine (part ++ more) 0 ≡ true)
+digits-become : (part : List ℕ) → unfinished part 0 ≡ true → (more : List ℕ) × (isFrameAt (part ++ more) 0 ≡ true)
 unfolding digitOf
 digits-become [] may = (48 ∷ 48 ∷ 48 ∷ 48 ∷ 10 ∷ [], refl)
 digits-become (a ∷ []) may =
@@ -165,11 +165,11 @@ digits-become (a ∷ b ∷ c ∷ d ∷ []) may =
 digits-become (a ∷ b ∷ c ∷ d ∷ e ∷ part) may = absurd (omega (arith, unfinished-short (a ∷ b ∷ c ∷ d ∷ e ∷ part) may))
 
 module _ (text : List ℕ) (at : ℕ) (inside : at ≤ length text) where
-  line-behind : (more : List ℕ) → isLine (drop at text ++ more) 0 ≡ isLine (text ++ more) at
-  line-behind more = rw (sym (drop-append-le at text more inside)) (line-from (text ++ more) at)
+  frame-behind : (more : List ℕ) → isFrameAt (drop at text ++ more) 0 ≡ isFrameAt (text ++ more) at
+  frame-behind more = rw (sym (drop-append-le at text more inside)) (frame-from (text ++ more) at)
 
-  pub unfinished-exactly-when : isLine text at ≡ false → (unfinished text at ≡ true) ↔ ((more : List ℕ) × (isLine (text ++ more) at ≡ true))
+  pub unfinished-exactly-when : isFrameAt text at ≡ false → (unfinished text at ≡ true) ↔ ((more : List ℕ) × (isFrameAt (text ++ more) at ≡ true))
   unfinished-exactly-when none = (
-    λ may. let (more, line) = digits-become (drop at text) (unfinished-from text at ∙ may) in (more, sym (line-behind more) ∙ line),
-    λ (more, line). sym (unfinished-from text at) ∙ line-front (drop at text) more (line-from text at ∙ none) (line-behind more ∙ line),
+    λ may. let (more, frame) = digits-become (drop at text) (unfinished-from text at ∙ may) in (more, sym (frame-behind more) ∙ frame),
+    λ (more, frame). sym (unfinished-from text at) ∙ frame-front (drop at text) more (frame-from text at ∙ none) (frame-behind more ∙ frame),
   )

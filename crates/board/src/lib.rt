@@ -1,9 +1,9 @@
 // A board: which part stands at which strap, what set-up asks of it, and the shares that its chips have of the two stores.
 pub mod shares;
 
+use base::logic::and;
+use base::logic::or;
 use base::number::least;
-use base::test::and;
-use base::test::or;
 use parts::address::share_address;
 use parts::part::geometry_of;
 use parts::part::is_part;

@@ -2,7 +2,7 @@
 use crate::PLACES;
 use crate::Place;
 use crate::placed;
-use base::test::or;
+use base::logic::or;
 use parts::part::geometry_of;
 ghost use mathlib.Core.Path.{_≡_};
 ghost use Rattle.board.specs.Place.{placed};

@@ -6,7 +6,7 @@ use mathlib.Core.List.{List}
 use denote.Ref.{now}
 use Rattle.bus.specs.declared.Stepped.{Stepped}
 use Rattle.refusal.specs.declared.Verdict.{Verdict}
-use Rattle.bus.specs.Run.{Tape, outcome}
+use Rattle.bus.specs.Run.{Progress, outcome}
 use Rattle.bus.proofs.Bus.empty.Kinds as empty-kinds
 use Rattle.bus.proofs.Bus.empty.Reads as empty-reads
 use Rattle.bus.proofs.Bus.set_up.Kinds as set-up-kinds
@@ -35,5 +35,5 @@ entry-verdict-unique κs args x y at-x at-y = same
 pub step-unique : UniqueOutcome step-kinds.ps step-kinds.r (Stepped × List ℕ × List ℕ) (λ κs result at. (result, now (at .1 .0), now (at .1 .1 .0))) step-reads.Post
 step-unique κs args x y at-x at-y = same
 
-pub run-unique : UniqueOutcome run-kinds.ps run-kinds.r (Verdict × Tape) (λ κs result at. outcome result (now (at .1 .0)) (now (at .1 .1 .0)) (now (at .1 .1 .1 .1 .0))) run-reads.Post
+pub run-unique : UniqueOutcome run-kinds.ps run-kinds.r (Verdict × Progress) (λ κs result at. outcome result (now (at .1 .0)) (now (at .1 .1 .0)) (now (at .1 .1 .1 .1 .0))) run-reads.Post
 run-unique κs args x y at-x at-y = same

@@ -21,29 +21,29 @@ runChecks bus array security events answers =
     (ltb (length answers) (length events), ShortBuffer) ∷ entryChecks bus array security
 
 -- the state, both stores and the answers so far
-abbrev pub Tape : Type 0
-Tape = Bus × List ℕ × List ℕ × List ℕ
+abbrev pub Progress : Type 0
+Progress = Bus × List ℕ × List ℕ × List ℕ
 
 -- the answer to event i is in its place
-abbrev pub noted : ℕ → List ℕ → Stepped × List ℕ × List ℕ → Tape
+abbrev pub noted : ℕ → List ℕ → Stepped × List ℕ × List ℕ → Progress
 noted i answers stepped = (stepped .0 .bus, stepped .1, stepped .2, set answers i (answerWord (stepped .0 .answer)))
 
-abbrev pub eventAt : List ℕ → ℕ → Tape → Tape
-eventAt events i tape = noted i (tape .3) (event (tape .0) (tape .1) (tape .2) (getD events i 0))
+abbrev pub runEvent : List ℕ → ℕ → Progress → Progress
+runEvent events i progress = noted i (progress .3) (event (progress .0) (progress .1) (progress .2) (getD events i 0))
 
 -- the first n events, one after the other
-unfoldable pub runUpTo : List ℕ → ℕ → Tape → Tape
-runUpTo events n tape = upTo (eventAt events) n tape
+unfoldable pub runUpTo : List ℕ → ℕ → Progress → Progress
+runUpTo events n progress = upTo (runEvent events) n progress
 
 -- a refused run returns the state it was given; answers past the list stay
-abbrev pub runBy : Verdict → List ℕ → Tape → Verdict × Tape
-runBy Passed events tape = (Passed, runUpTo events (length events) tape)
-runBy (Refused refusal) events tape = (Refused refusal, tape)
+abbrev pub runBy : Verdict → List ℕ → Progress → Verdict × Progress
+runBy Passed events progress = (Passed, runUpTo events (length events) progress)
+runBy (Refused refusal) events progress = (Refused refusal, progress)
 
-unfoldable pub run : Bus → List ℕ → List ℕ → List ℕ → List ℕ → Verdict × Tape
+unfoldable pub run : Bus → List ℕ → List ℕ → List ℕ → List ℕ → Verdict × Progress
 run bus array security events answers =
     runBy (firstOf (runChecks bus array security events answers)) events (bus, array, security, answers)
 
 -- a run's result beside the stores and the buffer that it leaves
-abbrev pub outcome : Ran → List ℕ → List ℕ → List ℕ → Verdict × Tape
+abbrev pub outcome : Ran → List ℕ → List ℕ → List ℕ → Verdict × Progress
 outcome ran array security answers = (ran .verdict, (ran .bus, array, security, answers))

@@ -11,8 +11,8 @@ use Rattle.refusal.specs.declared.Verdict.the-variants.{Passed, Refused}
 use Rattle.refusal.specs.declared.Answer.the-variants as answer
 use Rattle.refusal.specs.Checks.{firstOf}
 use Rattle.board.specs.Shares.{wrongLength}
-use Rattle.order.specs.declared.Order.{Order}
-use Rattle.order.specs.Order.{orderChecks, orderOf, eventOf}
+use Rattle.decode.specs.declared.Addressed.{Addressed}
+use Rattle.decode.specs.Decode.{decodeChecks, addressedOf, eventOf}
 use Rattle.lineup.specs.Chips.{placesOf}
 use Rattle.lineup.specs.Wellformed.{wellFormed}
 use Rattle.line.specs.declared.Played.{Played}
@@ -29,7 +29,7 @@ entryChecks bus array security =
 
 -- then the event
 abbrev pub eventChecks : Bus → ℕ → List (Bool × Refusal)
-eventChecks bus word = orderChecks (bus .count) word ++ ((clash (eventOf (orderOf word)) (bus .count) (bus .chips), Clash) ∷ [])
+eventChecks bus word = decodeChecks (bus .count) word ++ ((clash (eventOf (addressedOf word)) (bus .count) (bus .chips), Clash) ∷ [])
 
 abbrev pub stepChecks : Bus → List ℕ → List ℕ → ℕ → List (Bool × Refusal)
 stepChecks bus array security word = entryChecks bus array security ++ eventChecks bus word
@@ -43,11 +43,11 @@ abbrev pub done : Event → ℕ → Played × List ℕ × List ℕ → Stepped �
 done event count world =
     (record { bus = record { count = count; chips = world .0 .chips }; answer = answer.Done (lineReply event (world .0 .said)) }, world .1, world .2)
 
-unfoldable pub played : Order → Bus → List ℕ → List ℕ → Stepped × List ℕ × List ℕ
-played order bus array security = done (eventOf order) (bus .count) (play order (bus .count) (bus .chips) array security)
+unfoldable pub played : Addressed → Bus → List ℕ → List ℕ → Stepped × List ℕ × List ℕ
+played addressed bus array security = done (eventOf addressed) (bus .count) (play addressed (bus .count) (bus .chips) array security)
 
 abbrev pub stepBy : Verdict → Bus → List ℕ → List ℕ → ℕ → Stepped × List ℕ × List ℕ
-stepBy Passed bus array security word = played (orderOf word) bus array security
+stepBy Passed bus array security word = played (addressedOf word) bus array security
 stepBy (Refused refusal) bus array security word = refused refusal bus array security
 
 -- one event of a state that is well formed, with stores of the right length

@@ -5,13 +5,13 @@ use board::board_verdict;
 use board::placed;
 use board::shares::wrong_length;
 use chip::Chip;
+use decode::Addressed;
+use decode::addressed_of;
+use decode::decode_verdict;
+use decode::event_of;
 use line::clash;
 use line::line_reply;
 use lineup::places_of;
-use order::Order;
-use order::event_of;
-use order::order_of;
-use order::order_verdict;
 use refusal::Answer;
 use refusal::Refusal;
 use refusal::Verdict;
@@ -112,7 +112,7 @@ impl Bus {
         }
     }
 
-    // The events in turn, with an answer for each. The state is tested once: every event keeps it well formed.
+    // One event after the other, with an answer for each. The state is tested once: every event keeps it well formed.
     pub fn run(
         self,
         array: &mut [u8],
@@ -177,12 +177,12 @@ fn fresh_chips(count: usize, places: [Place; PLACES]) -> [Chip; PLACES]
 fn event_verdict(bus: Bus, word: u16) -> Verdict
     ensures { λ r. ⌜ r ≡ firstOf (eventChecks bus word) ⌝ }
 {
-    let verdict = order_verdict(bus.count, word);
+    let verdict = decode_verdict(bus.count, word);
     match verdict {
         Verdict::Refused(refusal) => Verdict::Refused(refusal),
         Verdict::Passed => {
             let chips = bus.chips;
-            if clash(event_of(order_of(word)), bus.count, chips) {
+            if clash(event_of(addressed_of(word)), bus.count, chips) {
                 Verdict::Refused(Refusal::Clash)
             } else {
                 Verdict::Passed
@@ -191,17 +191,17 @@ fn event_verdict(bus: Bus, word: u16) -> Verdict
     }
 }
 
-fn played(order: Order, bus: Bus, array: &mut [u8], security: &mut [u8]) -> Stepped
-    ensures { λ r. ⌜ (r, now (array .exit), now (security .exit)) ≡ played order bus (now (array .entry)) (now (security .entry)) ⌝ }
+fn played(addressed: Addressed, bus: Bus, array: &mut [u8], security: &mut [u8]) -> Stepped
+    ensures { λ r. ⌜ (r, now (array .exit), now (security .exit)) ≡ played addressed bus (now (array .entry)) (now (security .entry)) ⌝ }
 {
     let count = bus.count;
     let chips = bus.chips;
-    let world = line::play(order, count, chips, array, security);
+    let world = line::play(addressed, count, chips, array, security);
     let next = world.chips;
     let said = world.said;
     Stepped {
         bus: Bus { count, chips: next },
-        answer: Answer::Done(line_reply(event_of(order), said)),
+        answer: Answer::Done(line_reply(event_of(addressed), said)),
     }
 }
 
@@ -215,7 +215,7 @@ fn event(bus: Bus, array: &mut [u8], security: &mut [u8], word: u16) -> Stepped
             bus,
             answer: Answer::Refused(refusal),
         },
-        Verdict::Passed => played(order_of(word), bus, array, security),
+        Verdict::Passed => played(addressed_of(word), bus, array, security),
     }
 }
 

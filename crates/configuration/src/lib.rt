@@ -30,10 +30,10 @@ fn configure(first: u8, second: u8, third: u8, c: Control) -> Control
     ensures { λ r. ⌜ r ≡ configure first second third c ⌝ }
 {
     let free = !bit_of(c.config0, LOCK);
-    if base::test::and(confirms(first, third), free) {
-        c.configured(first % WRITABLE, second).started()
+    if base::logic::and(confirms(first, third), free) {
+        c.configured(first % WRITABLE, second).busy_now()
     } else {
-        c.ended()
+        c.standby_now()
     }
 }
 
@@ -41,10 +41,10 @@ pub fn stop_configuration(came: Came, c: Control) -> Control
     ensures { λ r. ⌜ r ≡ stopConfiguration came c ⌝ }
 {
     match came {
-        Came::Zero => c.ended(),
-        Came::One(_) => c.ended(),
-        Came::Two(_, _) => c.ended(),
+        Came::Zero => c.standby_now(),
+        Came::One(_) => c.standby_now(),
+        Came::Two(_, _) => c.standby_now(),
         Came::Three(first, second, third) => configure(first, second, third, c),
-        Came::More => c.ended(),
+        Came::More => c.standby_now(),
     }
 }

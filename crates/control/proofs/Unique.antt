@@ -8,12 +8,12 @@ use Rattle.control.proofs.Control.showing.Kinds as showing-kinds
 use Rattle.control.proofs.Control.showing.Reads as showing-reads
 use Rattle.control.proofs.Control.choosing.Kinds as choosing-kinds
 use Rattle.control.proofs.Control.choosing.Reads as choosing-reads
-use Rattle.control.proofs.Control.array_at.Kinds as array-at-kinds
-use Rattle.control.proofs.Control.array_at.Reads as array-at-reads
-use Rattle.control.proofs.Control.security_at.Kinds as security-at-kinds
-use Rattle.control.proofs.Control.security_at.Reads as security-at-reads
-use Rattle.control.proofs.Control.locked_now.Kinds as locked-now-kinds
-use Rattle.control.proofs.Control.locked_now.Reads as locked-now-reads
+use Rattle.control.proofs.Control.arraycounter_at.Kinds as arraycounter-at-kinds
+use Rattle.control.proofs.Control.arraycounter_at.Reads as arraycounter-at-reads
+use Rattle.control.proofs.Control.securitycounter_at.Kinds as securitycounter-at-kinds
+use Rattle.control.proofs.Control.securitycounter_at.Reads as securitycounter-at-reads
+use Rattle.control.proofs.Control.idlocked_now.Kinds as idlocked-now-kinds
+use Rattle.control.proofs.Control.idlocked_now.Reads as idlocked-now-reads
 use Rattle.control.proofs.Control.configured.Kinds as configured-kinds
 use Rattle.control.proofs.Control.configured.Reads as configured-reads
 use Rattle.control.proofs.Control.wp_at.Kinds as wp-at-kinds
@@ -24,10 +24,10 @@ use Rattle.control.proofs.Control.silent.Kinds as silent-kinds
 use Rattle.control.proofs.Control.silent.Reads as silent-reads
 use Rattle.control.proofs.Control.stays.Kinds as stays-kinds
 use Rattle.control.proofs.Control.stays.Reads as stays-reads
-use Rattle.control.proofs.Control.ended.Kinds as ended-kinds
-use Rattle.control.proofs.Control.ended.Reads as ended-reads
-use Rattle.control.proofs.Control.started.Kinds as started-kinds
-use Rattle.control.proofs.Control.started.Reads as started-reads
+use Rattle.control.proofs.Control.standby_now.Kinds as standby-now-kinds
+use Rattle.control.proofs.Control.standby_now.Reads as standby-now-reads
+use Rattle.control.proofs.Control.busy_now.Kinds as busy-now-kinds
+use Rattle.control.proofs.Control.busy_now.Reads as busy-now-reads
 use Rattle.control.proofs.Control.powered_up.Kinds as powered-up-kinds
 use Rattle.control.proofs.Control.powered_up.Reads as powered-up-reads
 use Rattle.control.proofs.phase.is_busy.Kinds as is-busy-kinds
@@ -55,14 +55,14 @@ showing-unique κs args x y at-x at-y = same
 pub choosing-unique : Unique choosing-kinds.ps choosing-kinds.r choosing-reads.Post
 choosing-unique κs args x y at-x at-y = same
 
-pub array-at-unique : Unique array-at-kinds.ps array-at-kinds.r array-at-reads.Post
-array-at-unique κs args x y at-x at-y = same
+pub arraycounter-at-unique : Unique arraycounter-at-kinds.ps arraycounter-at-kinds.r arraycounter-at-reads.Post
+arraycounter-at-unique κs args x y at-x at-y = same
 
-pub security-at-unique : Unique security-at-kinds.ps security-at-kinds.r security-at-reads.Post
-security-at-unique κs args x y at-x at-y = same
+pub securitycounter-at-unique : Unique securitycounter-at-kinds.ps securitycounter-at-kinds.r securitycounter-at-reads.Post
+securitycounter-at-unique κs args x y at-x at-y = same
 
-pub locked-now-unique : Unique locked-now-kinds.ps locked-now-kinds.r locked-now-reads.Post
-locked-now-unique κs args x y at-x at-y = same
+pub idlocked-now-unique : Unique idlocked-now-kinds.ps idlocked-now-kinds.r idlocked-now-reads.Post
+idlocked-now-unique κs args x y at-x at-y = same
 
 pub configured-unique : Unique configured-kinds.ps configured-kinds.r configured-reads.Post
 configured-unique κs args x y at-x at-y = same
@@ -79,11 +79,11 @@ silent-unique κs args x y at-x at-y = same
 pub stays-unique : Unique stays-kinds.ps stays-kinds.r stays-reads.Post
 stays-unique κs args x y at-x at-y = same
 
-pub ended-unique : Unique ended-kinds.ps ended-kinds.r ended-reads.Post
-ended-unique κs args x y at-x at-y = same
+pub standby-now-unique : Unique standby-now-kinds.ps standby-now-kinds.r standby-now-reads.Post
+standby-now-unique κs args x y at-x at-y = same
 
-pub started-unique : Unique started-kinds.ps started-kinds.r started-reads.Post
-started-unique κs args x y at-x at-y = same
+pub busy-now-unique : Unique busy-now-kinds.ps busy-now-kinds.r busy-now-reads.Post
+busy-now-unique κs args x y at-x at-y = same
 
 pub powered-up-unique : Unique powered-up-kinds.ps powered-up-kinds.r powered-up-reads.Post
 powered-up-unique κs args x y at-x at-y = same

@@ -7,8 +7,8 @@ use Rattle.control.specs.declared.Control.{Control}
 abbrev pub ewpm : Control → Bool
 ewpm c = bitOf (c .config0) 1
 
-abbrev pub lock : Control → Bool
-lock c = bitOf (c .config0) 0
+abbrev pub configlock : Control → Bool
+configlock c = bitOf (c .config0) 0
 
 -- bit z of byte 1 is SWPz
 abbrev pub swp : Control → ℕ → Bool

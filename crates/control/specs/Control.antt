@@ -17,9 +17,9 @@ fresh part strap =
       wp = false;
       config0 = 0;
       config1 = 0;
-      locked = false;
-      array = 0;
-      security = 0;
+      idlocked = false;
+      arraycounter = 0;
+      securitycounter = 0;
       shown = ShowsSecurity;
       chosen = false;
       phase = Standby;
@@ -34,9 +34,9 @@ inPhase phase c =
       wp = c .wp;
       config0 = c .config0;
       config1 = c .config1;
-      locked = c .locked;
-      array = c .array;
-      security = c .security;
+      idlocked = c .idlocked;
+      arraycounter = c .arraycounter;
+      securitycounter = c .securitycounter;
       shown = c .shown;
       chosen = c .chosen;
       phase = phase;
@@ -51,9 +51,9 @@ showing shown c =
       wp = c .wp;
       config0 = c .config0;
       config1 = c .config1;
-      locked = c .locked;
-      array = c .array;
-      security = c .security;
+      idlocked = c .idlocked;
+      arraycounter = c .arraycounter;
+      securitycounter = c .securitycounter;
       shown = shown;
       chosen = c .chosen;
       phase = c .phase;
@@ -68,60 +68,60 @@ choosing picked c =
       wp = c .wp;
       config0 = c .config0;
       config1 = c .config1;
-      locked = c .locked;
-      array = c .array;
-      security = c .security;
+      idlocked = c .idlocked;
+      arraycounter = c .arraycounter;
+      securitycounter = c .securitycounter;
       shown = c .shown;
       chosen = picked;
       phase = c .phase;
     }
 
 -- with its array counter elsewhere
-abbrev pub arrayAt : ℕ → Control → Control
-arrayAt at c =
+abbrev pub arraycounterAt : ℕ → Control → Control
+arraycounterAt at c =
     record {
       part = c .part;
       strap = c .strap;
       wp = c .wp;
       config0 = c .config0;
       config1 = c .config1;
-      locked = c .locked;
-      array = at;
-      security = c .security;
+      idlocked = c .idlocked;
+      arraycounter = at;
+      securitycounter = c .securitycounter;
       shown = c .shown;
       chosen = c .chosen;
       phase = c .phase;
     }
 
 -- with its security counter elsewhere
-abbrev pub securityAt : ℕ → Control → Control
-securityAt at c =
+abbrev pub securitycounterAt : ℕ → Control → Control
+securitycounterAt at c =
     record {
       part = c .part;
       strap = c .strap;
       wp = c .wp;
       config0 = c .config0;
       config1 = c .config1;
-      locked = c .locked;
-      array = c .array;
-      security = at;
+      idlocked = c .idlocked;
+      arraycounter = c .arraycounter;
+      securitycounter = at;
       shown = c .shown;
       chosen = c .chosen;
       phase = c .phase;
     }
 
 -- whose ID page is locked
-abbrev pub lockedNow : Control → Control
-lockedNow c =
+abbrev pub idlockedNow : Control → Control
+idlockedNow c =
     record {
       part = c .part;
       strap = c .strap;
       wp = c .wp;
       config0 = c .config0;
       config1 = c .config1;
-      locked = true;
-      array = c .array;
-      security = c .security;
+      idlocked = true;
+      arraycounter = c .arraycounter;
+      securitycounter = c .securitycounter;
       shown = c .shown;
       chosen = c .chosen;
       phase = c .phase;
@@ -136,9 +136,9 @@ configured byte0 byte1 c =
       wp = c .wp;
       config0 = byte0;
       config1 = byte1;
-      locked = c .locked;
-      array = c .array;
-      security = c .security;
+      idlocked = c .idlocked;
+      arraycounter = c .arraycounter;
+      securitycounter = c .securitycounter;
       shown = c .shown;
       chosen = c .chosen;
       phase = c .phase;
@@ -153,9 +153,9 @@ wpAt level c =
       wp = level;
       config0 = c .config0;
       config1 = c .config1;
-      locked = c .locked;
-      array = c .array;
-      security = c .security;
+      idlocked = c .idlocked;
+      arraycounter = c .arraycounter;
+      securitycounter = c .securitycounter;
       shown = c .shown;
       chosen = c .chosen;
       phase = c .phase;

@@ -4,8 +4,8 @@ pub mod phase;
 use crate::phase::Phase;
 use crate::phase::Shown;
 ghost use mathlib.Core.Path.{_≡_};
-ghost use Rattle.control.specs.Control.{fresh, inPhase, showing, choosing, arrayAt, securityAt, lockedNow, configured, wpAt};
-ghost use Rattle.control.specs.Exchange.{ended, started, poweredUp};
+ghost use Rattle.control.specs.Control.{fresh, inPhase, showing, choosing, arraycounterAt, securitycounterAt, idlockedNow, configured, wpAt};
+ghost use Rattle.control.specs.Exchange.{standbyNow, busyNow, poweredUp};
 ghost use Rattle.control.specs.Said.{acked, silent, stays};
 
 // Part and strap are raw numbers, since a malformed state may hold any. The counters are `array` and `security`.
@@ -15,9 +15,9 @@ pub struct Control {
     pub wp: bool,
     pub config0: u8,
     pub config1: u8,
-    pub locked: bool,
-    pub array: u32,
-    pub security: u32,
+    pub idlocked: bool,
+    pub arraycounter: u32,
+    pub securitycounter: u32,
     pub shown: Shown,
     pub chosen: bool,
     pub phase: Phase,
@@ -46,9 +46,9 @@ impl Control {
             wp: false,
             config0: 0,
             config1: 0,
-            locked: false,
-            array: 0,
-            security: 0,
+            idlocked: false,
+            arraycounter: 0,
+            securitycounter: 0,
             shown: Shown::ShowsSecurity,
             chosen: false,
             phase: Phase::Standby,
@@ -66,9 +66,9 @@ impl Control {
             wp: self.wp,
             config0: self.config0,
             config1: self.config1,
-            locked: self.locked,
-            array: self.array,
-            security: self.security,
+            idlocked: self.idlocked,
+            arraycounter: self.arraycounter,
+            securitycounter: self.securitycounter,
             shown,
             chosen: self.chosen,
             phase,
@@ -85,9 +85,9 @@ impl Control {
             wp: self.wp,
             config0: self.config0,
             config1: self.config1,
-            locked: self.locked,
-            array: self.array,
-            security: self.security,
+            idlocked: self.idlocked,
+            arraycounter: self.arraycounter,
+            securitycounter: self.securitycounter,
             shown,
             chosen: self.chosen,
             phase,
@@ -102,27 +102,27 @@ impl Control {
         control
     }
 
-    pub fn array_at(self, at: u32) -> Control
-        ensures { λ r. ⌜ r ≡ arrayAt at self ⌝ }
+    pub fn arraycounter_at(self, at: u32) -> Control
+        ensures { λ r. ⌜ r ≡ arraycounterAt at self ⌝ }
     {
         let mut control = self;
-        control.array = at;
+        control.arraycounter = at;
         control
     }
 
-    pub fn security_at(self, at: u32) -> Control
-        ensures { λ r. ⌜ r ≡ securityAt at self ⌝ }
+    pub fn securitycounter_at(self, at: u32) -> Control
+        ensures { λ r. ⌜ r ≡ securitycounterAt at self ⌝ }
     {
         let mut control = self;
-        control.security = at;
+        control.securitycounter = at;
         control
     }
 
-    pub fn locked_now(self) -> Control
-        ensures { λ r. ⌜ r ≡ lockedNow self ⌝ }
+    pub fn idlocked_now(self) -> Control
+        ensures { λ r. ⌜ r ≡ idlockedNow self ⌝ }
     {
         let mut control = self;
-        control.locked = true;
+        control.idlocked = true;
         control
     }
 
@@ -175,15 +175,15 @@ impl Control {
     }
 
     // The exchange is over without a cycle: standby until the next Start. However one ends, the choice is dropped.
-    pub fn ended(self) -> Control
-        ensures { λ r. ⌜ r ≡ ended self ⌝ }
+    pub fn standby_now(self) -> Control
+        ensures { λ r. ⌜ r ≡ standbyNow self ⌝ }
     {
         self.choosing(false).in_phase(Phase::Standby)
     }
 
     // A write cycle runs: busy until event 07 or 08.
-    pub fn started(self) -> Control
-        ensures { λ r. ⌜ r ≡ started self ⌝ }
+    pub fn busy_now(self) -> Control
+        ensures { λ r. ⌜ r ≡ busyNow self ⌝ }
     {
         self.choosing(false).in_phase(Phase::Busy)
     }
@@ -192,7 +192,9 @@ impl Control {
     pub fn powered_up(self) -> Control
         ensures { λ r. ⌜ r ≡ poweredUp self ⌝ }
     {
-        let cleared = self.choosing(false).array_at(0).security_at(0);
+        let cleared = self.choosing(false)
+            .arraycounter_at(0)
+            .securitycounter_at(0);
         cleared
             .showing(Shown::ShowsSecurity)
             .in_phase(Phase::Standby)

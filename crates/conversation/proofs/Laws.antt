@@ -12,9 +12,9 @@ use lib.Seq.{length-take-le, take-all, getD-take, getD-drop, paste, paste-suc, d
 use Rattle.base.specs.Least.{least}
 use Rattle.base.specs.Store.{patched}
 use borrow.Author.Tests.{le-leb}
-use Rattle.transcript.specs.declared.line.Line.{Line}
-use Rattle.transcript.specs.declared.line.Line.the-variants.{Event, Malformed, End}
-use Rattle.transcript.specs.Line.{lineAt}
+use Rattle.transcript.specs.declared.frame.Frame.{Frame}
+use Rattle.transcript.specs.declared.frame.Frame.the-variants.{Event, Malformed, End}
+use Rattle.transcript.specs.Frame.{frameAt}
 use Rattle.conversation.specs.Tape.{textOn, restOf, atStart}
 use Rattle.base.proofs.number.Laws.{least-first, least-second, least-most}
 
@@ -97,18 +97,18 @@ module _ (tape : List ℕ) (filled used : ℕ) where
       ∙ ap (λ (xs : List ℕ). xs ++ drop (0 + length rest) tape) (take-all (length rest) rest (omega arith))
       ∙ ap (λ (k : ℕ). rest ++ drop k tape) (zero-add (length rest))
 
-isEnd : Line → Bool
+isEnd : Frame → Bool
 isEnd (Event event next) = false
 isEnd Malformed = false
 isEnd End = true
 
 -- a malformed line stands inside the text
-pub malformed-inside : (text : List ℕ) (at : ℕ) → lineAt text at ≡ Malformed → at ≤ length text
+pub malformed-inside : (text : List ℕ) (at : ℕ) → frameAt text at ≡ Malformed → at ≤ length text
 unfolding isEnd
 malformed-inside text at malformed = go (decLe (length text) at)
   where
     go : Dec (length text ≤ at) → at ≤ length text
     go (yes past) =
-        let ends : isEnd (lineAt text at) ≡ true = rw (le-leb (length text) at past) refl in
+        let ends : isEnd (frameAt text at) ≡ true = rw (le-leb (length text) at past) refl in
         absurd (false≢true (ap isEnd (sym malformed) ∙ ends))
     go (no inside) = omega arith

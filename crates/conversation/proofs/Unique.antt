@@ -19,7 +19,7 @@ use denote.Triple.Entry.{Args}
 use Rattle.base.proofs.Unique.{Unique, UniqueOutcome, same}
 use Rattle.bus.specs.declared.Bus.{Bus}
 use Rattle.conversation.specs.declared.Heard.{Heard}
-use Rattle.conversation.specs.declared.turn.Turn.{Turn}
+use Rattle.conversation.specs.declared.pending.Pending.{Pending}
 use Rattle.conversation.specs.Talk.{Left, converse}
 use Rattle.conversation.specs.Tape.{textOn}
 use Rattle.conversation.specs.Whole.{answerAll}
@@ -27,14 +27,14 @@ use Rattle.conversation.proofs.tape.text_end.Kinds as text-end-kinds
 use Rattle.conversation.proofs.tape.text_end.Reads as text-end-reads
 use Rattle.conversation.proofs.tape.keep_rest.Kinds as keep-rest-kinds
 use Rattle.conversation.proofs.tape.keep_rest.Reads as keep-rest-reads
-use Rattle.conversation.proofs.turn.first_turn.Kinds as first-turn-kinds
-use Rattle.conversation.proofs.turn.first_turn.Reads as first-turn-reads
-use Rattle.conversation.proofs.turn.next_turn.Kinds as next-turn-kinds
-use Rattle.conversation.proofs.turn.next_turn.Reads as next-turn-reads
-use Rattle.conversation.proofs.turn.told.Kinds as told-kinds
-use Rattle.conversation.proofs.turn.told.Reads as told-reads
-use Rattle.conversation.proofs.turn.finish.Kinds as finish-kinds
-use Rattle.conversation.proofs.turn.finish.Reads as finish-reads
+use Rattle.conversation.proofs.pending.first_pending.Kinds as first-pending-kinds
+use Rattle.conversation.proofs.pending.first_pending.Reads as first-pending-reads
+use Rattle.conversation.proofs.pending.next_pending.Kinds as next-pending-kinds
+use Rattle.conversation.proofs.pending.next_pending.Reads as next-pending-reads
+use Rattle.conversation.proofs.pending.heard_of.Kinds as heard-of-kinds
+use Rattle.conversation.proofs.pending.heard_of.Reads as heard-of-reads
+use Rattle.conversation.proofs.pending.finish.Kinds as finish-kinds
+use Rattle.conversation.proofs.pending.finish.Reads as finish-reads
 use Rattle.conversation.proofs.converse as talk
 use Rattle.conversation.proofs.answer_all as answer-all
 
@@ -44,14 +44,14 @@ text-end-unique κs args x y at-x at-y = same
 pub keep-rest-unique : UniqueOutcome keep-rest-kinds.ps keep-rest-kinds.r (ℕ × List ℕ) (λ κs result at. (result, now (at .0))) keep-rest-reads.Post
 keep-rest-unique κs args x y at-x at-y = same
 
-pub first-turn-unique : UniqueOutcome first-turn-kinds.ps first-turn-kinds.r (Turn × List ℕ) (λ κs result at. (result, now (at .1 .1 .0))) first-turn-reads.Post
-first-turn-unique κs args x y at-x at-y = same
+pub first-pending-unique : UniqueOutcome first-pending-kinds.ps first-pending-kinds.r (Pending × List ℕ) (λ κs result at. (result, now (at .1 .1 .0))) first-pending-reads.Post
+first-pending-unique κs args x y at-x at-y = same
 
-pub next-turn-unique : UniqueOutcome next-turn-kinds.ps next-turn-kinds.r (Turn × List ℕ) (λ κs result at. (result, now (at .1 .1 .1 .1 .0))) next-turn-reads.Post
-next-turn-unique κs args x y at-x at-y = same
+pub next-pending-unique : UniqueOutcome next-pending-kinds.ps next-pending-kinds.r (Pending × List ℕ) (λ κs result at. (result, now (at .1 .1 .1 .1 .0))) next-pending-reads.Post
+next-pending-unique κs args x y at-x at-y = same
 
-pub told-unique : Unique told-kinds.ps told-kinds.r told-reads.Post
-told-unique κs args x y at-x at-y = same
+pub heard-of-unique : Unique heard-of-kinds.ps heard-of-kinds.r heard-of-reads.Post
+heard-of-unique κs args x y at-x at-y = same
 
 pub finish-unique : UniqueOutcome finish-kinds.ps finish-kinds.r (Heard × List ℕ) (λ κs result at. (result, now (at .1 .1 .1 .0))) finish-reads.Post
 finish-unique κs args x y at-x at-y = same

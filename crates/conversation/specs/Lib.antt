@@ -1,4 +1,4 @@
 pub mod Talk
-pub mod Turn
+pub mod Pending
 pub mod Tape
 pub mod Whole

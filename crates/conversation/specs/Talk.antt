@@ -1,4 +1,4 @@
--- A conversation over a transcript: each line is answered in its turn, by the step of a single event; a malformed line ends the run
+-- A conversation over a transcript: each line is answered, one after the other, by the step of a single event; a malformed line ends the run
 -- (paper, "The transcript").
 use Prim.Native.Nat.{ℕ, _+_, _-_, _/_}
 use mathlib.Core.Bool.{Bool, true, false, cond, _&&_}
@@ -10,10 +10,10 @@ use Rattle.refusal.specs.Refusal.{answerWord}
 use Rattle.bus.specs.declared.Bus.{Bus}
 use Rattle.bus.specs.declared.Stepped.{Stepped}
 use Rattle.bus.specs.Step.{step}
-use Rattle.transcript.specs.declared.line.Line.{Line}
-use Rattle.transcript.specs.declared.line.Line.the-variants.{Event, Malformed, End}
+use Rattle.transcript.specs.declared.frame.Frame.{Frame}
+use Rattle.transcript.specs.declared.frame.Frame.the-variants.{Event, Malformed, End}
 use Rattle.transcript.specs.Digit.{isDigit}
-use Rattle.transcript.specs.Line.{lineAt, meaning}
+use Rattle.transcript.specs.Frame.{frameAt, meaning}
 use Rattle.print.specs.Print.{printed, closing}
 use Rattle.conversation.specs.declared.Heard.{Heard}
 
@@ -44,26 +44,26 @@ abbrev pub ended : List ℕ → Talk → Talk
 ended text talk =
     record { bus = talk .bus; array = talk .array; security = talk .security; said = talk .said ++ closing (meaning Malformed (talk .at) .status); at = length text; over = true }
 
-abbrev pub byLine : Line → List ℕ → Talk → Talk
-byLine (Event event next) text talk = answered event next talk (step (talk .bus) (talk .array) (talk .security) event)
-byLine Malformed text talk = cond (unfinished text (talk .at)) talk (ended text talk)
-byLine End text talk = talk
+abbrev pub byFrame : Frame → List ℕ → Talk → Talk
+byFrame (Event event next) text talk = answered event next talk (step (talk .bus) (talk .array) (talk .security) event)
+byFrame Malformed text talk = cond (unfinished text (talk .at)) talk (ended text talk)
+byFrame End text talk = talk
 
 -- what the reader says at the place is answered
-unfoldable pub hearLine : List ℕ → Talk → Talk
-hearLine text talk = byLine (lineAt text (talk .at)) text talk
+unfoldable pub hearFrame : List ℕ → Talk → Talk
+hearFrame text talk = byFrame (frameAt text (talk .at)) text talk
 
 -- at most n lines are answered, one after the other
 abbrev pub hear : List ℕ → ℕ → Talk → Talk
-hear text n talk = upTo (λ (i : ℕ). hearLine text) n talk
+hear text n talk = upTo (λ (i : ℕ). hearFrame text) n talk
 
 -- how many answers a buffer has room for
 abbrev pub roomIn : List ℕ → ℕ
 roomIn buffer = length buffer / 9
 
 -- what a conversation tells: how much of the text is used, how much was said, whether it is over
-abbrev pub heardOf : Talk → Heard
-heardOf talk = record { used = talk .at; written = length (talk .said); over = talk .over }
+abbrev pub heardIn : Talk → Heard
+heardIn talk = record { used = talk .at; written = length (talk .said); over = talk .over }
 
 -- the answers stand at the start of the buffer, and the rest of it stays
 abbrev pub laidOn : List ℕ → List ℕ → List ℕ
@@ -74,7 +74,7 @@ abbrev pub Left : Type 0
 Left = Heard × Bus × List ℕ × List ℕ × List ℕ
 
 abbrev pub leftBy : List ℕ → Talk → Left
-leftBy buffer talk = (heardOf talk, talk .bus, talk .array, talk .security, laidOn buffer (talk .said))
+leftBy buffer talk = (heardIn talk, talk .bus, talk .array, talk .security, laidOn buffer (talk .said))
 
 -- a text is heard as far as the buffer has room for answers
 unfoldable pub converse : List ℕ → Bus → List ℕ → List ℕ → List ℕ → Left

@@ -4,7 +4,7 @@ use mathlib.Core.List.{List}
 use Rattle.bus.specs.declared.Bus.{Bus}
 use Rattle.conversation.specs.declared.Heard.{Heard}
 use Rattle.conversation.specs.Talk.{Left, converse}
-use Rattle.conversation.specs.Turn.{finished}
+use Rattle.conversation.specs.Pending.{finished}
 
 abbrev pub finishedBy : List ℕ → Left → Heard × List ℕ × List ℕ × List ℕ
 finishedBy text left = (finished text (left .0) (left .4) .0, left .2, left .3, finished text (left .0) (left .4) .1)

@@ -1,14 +1,14 @@
 // A conversation over a transcript: the lines of a text are answered one after the other by a bus that is lent (paper, "The transcript").
+mod pending;
 pub mod tape;
-mod turn;
 
-pub use crate::turn::MALFORMED;
-use crate::turn::finish;
-use crate::turn::first_turn;
-use crate::turn::next_turn;
-use crate::turn::told;
+pub use crate::pending::MALFORMED;
+use crate::pending::finish;
+use crate::pending::first_pending;
+use crate::pending::heard_of;
+use crate::pending::next_pending;
 use bus::Bus;
-use lent::play;
+use inplace::step_in_place;
 ghost use mathlib.Core.Path.{_≡_};
 ghost use Rattle.conversation.specs.Talk.{converse};
 ghost use Rattle.conversation.specs.Tape.{textOn};
@@ -32,12 +32,12 @@ pub fn converse(
 ) -> Heard
     ensures { λ heard. ⌜ (heard, now (bus .exit), now (array .exit), now (security .exit), now (said .exit)) ≡ converse (textOn (now (tape .entry)) filled) (now (bus .entry)) (now (array .entry)) (now (security .entry)) (now (said .entry)) ⌝ }
 {
-    let mut turn = first_turn(tape, filled, said);
-    while turn.more {
-        let answer = play(bus, array, security, turn.event);
-        turn = next_turn(turn, answer, tape, filled, said);
+    let mut pending = first_pending(tape, filled, said);
+    while pending.more {
+        let answer = step_in_place(bus, array, security, pending.event);
+        pending = next_pending(pending, answer, tape, filled, said);
     }
-    told(turn)
+    heard_of(pending)
 }
 
 // A whole transcript, on a bus that serves for nothing else.

@@ -16,7 +16,7 @@ fn writes_array(c: Control, load: Load) -> bool
     ensures { λ r. ⌜ r ≡ writesArray c load ⌝ }
 {
     let free = !is_protected(c);
-    base::test::and(load.holds(c.part), free)
+    base::logic::and(load.holds(c.part), free)
 }
 
 // The same, and in the ID page: the read-only half never changes.
@@ -24,8 +24,8 @@ fn writes_security(c: Control, load: Load) -> bool
     ensures { λ r. ⌜ r ≡ writesSecurity c load ⌝ }
 {
     let free = !id_page_protected(c);
-    let writable = base::test::and(in_id_page(c.part, c.security), free);
-    base::test::and(load.holds(c.part), writable)
+    let writable = base::logic::and(in_id_page(c.part, c.securitycounter), free);
+    base::logic::and(load.holds(c.part), writable)
 }
 
 // Nothing is stored before the Stop.
@@ -33,31 +33,31 @@ fn stop_array(c: Control, load: Load, array: &mut [u8]) -> Control
     ensures { λ r. ⌜ (r, now (array .exit)) ≡ stopArray c load (now (array .entry)) ⌝ }
 {
     if writes_array(c, load) {
-        load.store_page(c.part, c.array, array);
-        return c.started();
+        load.store_page(c.part, c.arraycounter, array);
+        return c.busy_now();
     }
-    c.ended()
+    c.standby_now()
 }
 
 fn stop_security(c: Control, load: Load, security: &mut [u8]) -> Control
     ensures { λ r. ⌜ (r, now (security .exit)) ≡ stopSecurity c load (now (security .entry)) ⌝ }
 {
     if writes_security(c, load) {
-        load.store_page(c.part, c.security, security);
-        return c.started();
+        load.store_page(c.part, c.securitycounter, security);
+        return c.busy_now();
     }
-    c.ended()
+    c.standby_now()
 }
 
 // With at least one data byte, on a page that is not locked yet.
 fn stop_lock(some: bool, c: Control) -> Control
     ensures { λ r. ⌜ r ≡ stopLock some c ⌝ }
 {
-    let free = !c.locked;
-    if base::test::and(some, free) {
-        c.locked_now().started()
+    let free = !c.idlocked;
+    if base::logic::and(some, free) {
+        c.idlocked_now().busy_now()
     } else {
-        c.ended()
+        c.standby_now()
     }
 }
 
@@ -69,7 +69,7 @@ fn stop_data(kind: Data, c: Control, load: Load, array: &mut [u8], security: &mu
         Data::ToSecurity => stop_security(c, load, security),
         Data::ToConfiguration(came) => stop_configuration(came, c),
         Data::ToLock(some) => stop_lock(some, c),
-        Data::ToNowhere => c.ended(),
+        Data::ToNowhere => c.standby_now(),
     }
 }
 
@@ -79,12 +79,12 @@ pub fn stop(c: Control, load: Load, array: &mut [u8], security: &mut [u8]) -> Co
 {
     let phase = c.phase;
     match phase {
-        Phase::Standby => c.ended(),
+        Phase::Standby => c.standby_now(),
         Phase::Busy => c,
-        Phase::AwaitsAddress => c.ended(),
-        Phase::AwaitsChoice => c.ended(),
-        Phase::AwaitsWord(_) => c.ended(),
+        Phase::AwaitsAddress => c.standby_now(),
+        Phase::AwaitsChoice => c.standby_now(),
+        Phase::AwaitsWord(_) => c.standby_now(),
         Phase::TakesData(kind) => stop_data(kind, c, load, array, security),
-        Phase::SendsByte(_) => c.ended(),
+        Phase::SendsByte(_) => c.standby_now(),
     }
 }

@@ -76,7 +76,7 @@ nextAddress confirmation = replyOf 0x00 (locking confirmation (Start ∷ Sent 0x
 
 -- the array counter of a 24CSM01 at strap 2 after an address byte and the word address 0000h
 abbrev counterBy : ℕ → ℕ
-counterBy byte = played (Start ∷ Sent byte ∷ Sent 0x00 ∷ Sent 0x00 ∷ []) (quiet (fresh m01 2), [], []) .0 .chip .control .array
+counterBy byte = played (Start ∷ Sent byte ∷ Sent 0x00 ∷ Sent 0x00 ∷ []) (quiet (fresh m01 2), [], []) .0 .chip .control .arraycounter
 
 -- a 24CSM01 and a 24CS32 on one board with stores that fit, and what set-up answers
 abbrev place : ℕ → ℕ → Place

@@ -159,17 +159,17 @@ busy-inert c formed busy =
     (λ active. unchosen (alone _ (rw is at active)), rw is false≢true)
 
 -- Start: whoever is active after it was so before, and awaits an address
-abbrev Ready : Control → Control → Type 0
-Ready c after = (isActive after ≡ true → isActive c ≡ true) × (isActive after ≡ true → awaitsAddress (after .phase) ≡ true)
+abbrev Steady : Control → Control → Type 0
+Steady c after = (isActive after ≡ true → isActive c ≡ true) × (isActive after ≡ true → awaitsAddress (after .phase) ≡ true)
 
-start-ready : (c : Chip) → wellFormed c ≡ true → Ready (c .control) (chip.start c .control)
-start-ready c formed =
-    either-if (λ (x : Chip). Ready (c .control) (x .control)) (isBusy (c .control .phase)) c _
+start-steady : (c : Chip) → wellFormed c ≡ true → Steady (c .control) (chip.start c .control)
+start-steady c formed =
+    either-if (λ (x : Chip). Steady (c .control) (x .control)) (isBusy (c .control .phase)) c _
     (λ busy. (λ is. is, λ is. absurd (busy-inert c formed busy .0 is)))
     (chosen-active (c .control), λ is. refl)
 
-both-ready : {c d c′ d′ : Control} → Beside c d → Ready c c′ → Ready d d′ → Beside c′ d′
-both-ready b p q =
+both-steady : {c d c′ d′ : Control} → Beside c d → Steady c c′ → Steady d d′ → Beside c′ d′
+both-steady b p q =
     record { one = λ is other. b .one (p .0 is) (q .0 other); first = λ is waits. p .1 is; second = λ is waits. q .1 is }
 
 -- a byte that a chip awaits, by the call that it is for that chip: F8h leaves it not chosen, after F9h it awaits nothing and is active
@@ -308,7 +308,7 @@ named-kept c d array security PowerUp named test = absurd (false≢true named)
 module _ (c d : Chip) (array security array′ security′ : List ℕ) (formed : wellFormed c ≡ true) (formed′ : wellFormed d ≡ true) (unshared : Unshared (c .control) (d .control)) (b : Beside (c .control) (d .control)) where
   both-step : (event : Event) → Beside (chip.step c array security event .0 .chip .control) (chip.step d array′ security′ event .0 .chip .control)
   unfolding chip.step take read
-  both-step Start = both-ready b (start-ready c formed) (start-ready d formed′)
+  both-step Start = both-steady b (start-steady c formed) (start-steady d formed′)
   both-step Stop =
       unless-both-await _ _ b (inert-stops c array security formed) (inert-stops d array′ security′ formed′)
       (λ is other. inert-beside (awaiting-stops c array security formed is))

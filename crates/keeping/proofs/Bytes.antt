@@ -6,7 +6,7 @@ use mathlib.Core.Bool.{Bool, cond, not, _&&_}
 use mathlib.Core.List.{List, [], _∷_}
 use lib.Dec.{eqb}
 use Rattle.base.specs.Every.{FitsByte, AllBytes}
-use Rattle.base.proofs.test.Laws.{either}
+use Rattle.base.proofs.logic.Laws.{either}
 use Rattle.base.proofs.Fold.{up-keeps}
 use Rattle.base.proofs.Every.{every-at, every-set}
 use Rattle.parts.specs.declared.part.Geometry.{Geometry}
@@ -27,14 +27,14 @@ use Rattle.control.specs.declared.phase.Came.the-variants.{Zero, One, Two, Thre
 use Rattle.control.specs.declared.phase.Source.{Source}
 use Rattle.control.specs.declared.phase.Source.the-variants.{FromArray, FromSecurity, FromConfiguration, FromId, FromNothing}
 use Rattle.control.specs.Phase.{isBusy}
-use Rattle.control.specs.Bits.{lock}
+use Rattle.control.specs.Bits.{configlock}
 use Rattle.control.specs.Control.{inPhase}
 use Rattle.addressing.specs.declared.Call.{Call}
 use Rattle.addressing.specs.declared.Call.the-variants.{ReadArray, WriteArray, ReadRegister, WriteRegister, HostF8, HostF9, Nobody}
 use Rattle.addressing.specs.Address.{callOf, takeCall, takeAddress, takeChosen, takeChoice}
-use Rattle.words.specs.declared.Register.{Register}
-use Rattle.words.specs.declared.Register.the-variants.{Security, Configuration, Lock, Nowhere}
-use Rattle.words.specs.Word.{registerOf, isLock, takeNamed, takeWord}
+use Rattle.wordaddress.specs.declared.Register.{Register}
+use Rattle.wordaddress.specs.declared.Register.the-variants.{Security, Configuration, Lock, Nowhere}
+use Rattle.wordaddress.specs.WordAddress.{registerOf, isLock, takeNamed, takeWord}
 use Rattle.taking.specs.Taking.{cameMore, takeData, takeIn, take}
 use Rattle.sending.specs.Sending.{noByte, byteFrom, movedPast, readIn, read}
 use Rattle.configuration.specs.Configuration.{confirms, stopConfiguration}
@@ -88,7 +88,7 @@ module _ (c : Control) (byte : ℕ) (now : ControlBytes c) (sent : FitsByte byte
   to-named : (first : ℕ) (register : Register) → Answers (takeNamed register first c byte)
   to-named first Security = plain
   to-named first Configuration = plain
-  to-named first Lock = either Answers (c .locked) _ _ plain plain
+  to-named first Lock = either Answers (c .idlocked) _ _ plain plain
   to-named first Nowhere = plain
 
   -- the first byte of a word address is kept
@@ -98,14 +98,14 @@ module _ (c : Control) (byte : ℕ) (now : ControlBytes c) (sent : FitsByte byte
   to-word : (word : Word) → Answers (takeWord word c byte)
   to-word (ArrayFirst a16) = first-kept
   to-word (ArraySecond a16 first) = plain
-  to-word RegisterFirst = either Answers (c .locked && isLock (registerOf byte)) _ _ plain first-kept
+  to-word RegisterFirst = either Answers (c .idlocked && isLock (registerOf byte)) _ _ plain first-kept
   to-word (RegisterSecond first) = to-named first (registerOf first)
 
   to-data : (kind : Data) → AllBytes (bytesIn (TakesData kind)) → Answers (takeData kind c byte)
   to-data ToArray held = plain
   to-data ToSecurity held = plain
   to-data (ToConfiguration came) held = ((now .0, (now .1 .0, more-came came byte held sent)), tt)
-  to-data (ToLock some) held = either Answers (c .locked) _ _ plain plain
+  to-data (ToLock some) held = either Answers (c .idlocked) _ _ plain plain
   to-data ToNowhere held = plain
 
   take-bytes : (phase : Phase) → AllBytes (bytesIn phase) → Answers (takeIn phase c byte)
@@ -145,8 +145,8 @@ module _ (c : Control) (array security : List ℕ) (now : ControlBytes c) where
   -- what is sent is a byte where the shares hold bytes
   module _ (in-array : AllBytes array) (in-security : AllBytes security) where
     byte-from : (source : Source) → FitsByte (byteFrom source c array security)
-    byte-from FromArray = every-at FitsByte array (c .array) noByte in-array (omega arith)
-    byte-from FromSecurity = every-at FitsByte security (c .security) noByte in-security (omega arith)
+    byte-from FromArray = every-at FitsByte array (c .arraycounter) noByte in-array (omega arith)
+    byte-from FromSecurity = every-at FitsByte security (c .securitycounter) noByte in-security (omega arith)
     byte-from (FromConfiguration second) = either FitsByte second (c .config1) (c .config0) (now .1 .0) (now .0)
     byte-from (FromId place) = every-at FitsByte (geometryOf (c .part) .id) place noByte (id-bytes (c .part)) (omega arith)
     byte-from FromNothing = omega arith
@@ -180,14 +180,14 @@ module _ (c : Control) (load : Load) (array security : List ℕ) (now : ControlB
   configured-bytes (One first) held = over
   configured-bytes (Two first second) held = over
   configured-bytes (Three first second third) held =
-      either ControlBytes (confirms first third && not (lock c)) _ _ (omega arith, (held .1 .0, tt)) over
+      either ControlBytes (confirms first third && not (configlock c)) _ _ (omega arith, (held .1 .0, tt)) over
   configured-bytes More held = over
 
   data-stopped : (kind : Data) → AllBytes (bytesIn (TakesData kind)) → ControlBytes (stopData kind c load array security .0)
   data-stopped ToArray held = either (λ (x : Control × List ℕ). ControlBytes (x .0)) (writesArray c load) _ _ over over
   data-stopped ToSecurity held = either (λ (x : Control × List ℕ). ControlBytes (x .0)) (writesSecurity c load) _ _ over over
   data-stopped (ToConfiguration came) held = configured-bytes came held
-  data-stopped (ToLock some) held = either ControlBytes (some && not (c .locked)) _ _ over over
+  data-stopped (ToLock some) held = either ControlBytes (some && not (c .idlocked)) _ _ over over
   data-stopped ToNowhere held = over
 
   stop-bytes : (phase : Phase) → AllBytes (bytesIn phase) → ControlBytes (stopIn phase c load array security .0)
@@ -206,9 +206,9 @@ Shares array security = AllBytes array × AllBytes security
 module _ (c : Control) (load : Load) (array security : List ℕ) (in-load : AllBytes (load .values)) (in-array : AllBytes array) (in-security : AllBytes security) where
   shares-stopped : (kind : Data) → Shares (stopData kind c load array security .1) (stopData kind c load array security .2)
   shares-stopped ToArray =
-      (either (λ (x : Control × List ℕ). AllBytes (x .1)) (writesArray c load) _ _ (page-stored (geometryOf (c .part)) (c .array) load array in-load in-array) in-array, in-security)
+      (either (λ (x : Control × List ℕ). AllBytes (x .1)) (writesArray c load) _ _ (page-stored (geometryOf (c .part)) (c .arraycounter) load array in-load in-array) in-array, in-security)
   shares-stopped ToSecurity =
-      (in-array, either (λ (x : Control × List ℕ). AllBytes (x .1)) (writesSecurity c load) _ _ (page-stored (geometryOf (c .part)) (c .security) load security in-load in-security) in-security)
+      (in-array, either (λ (x : Control × List ℕ). AllBytes (x .1)) (writesSecurity c load) _ _ (page-stored (geometryOf (c .part)) (c .securitycounter) load security in-load in-security) in-security)
   shares-stopped (ToConfiguration came) = (in-array, in-security)
   shares-stopped (ToLock some) = (in-array, in-security)
   shares-stopped ToNowhere = (in-array, in-security)

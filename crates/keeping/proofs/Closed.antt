@@ -5,7 +5,7 @@ use mathlib.Core.Bool.{Bool, true, false, cond, not, _&&_}
 use mathlib.Core.List.{List}
 use mathlib.Core.Path.{_≡_, refl}
 use borrow.Author.Tests.{not-true}
-use Rattle.base.proofs.test.Laws.{either}
+use Rattle.base.proofs.logic.Laws.{either}
 use Rattle.base.proofs.Fold.{and-right}
 use Rattle.parts.specs.Part.{geometryOf}
 use Rattle.load.specs.declared.Load.{Load}
@@ -23,17 +23,17 @@ use Rattle.control.specs.declared.phase.Source.{Source}
 use Rattle.control.specs.declared.phase.Source.the-variants.{FromArray, FromSecurity, FromConfiguration, FromId, FromNothing}
 use Rattle.control.specs.declared.phase.Shown.{Shown}
 use Rattle.control.specs.Phase.{isBusy}
-use Rattle.control.specs.Control.{inPhase, showing, choosing, arrayAt, securityAt, lockedNow, configured, wpAt}
-use Rattle.control.specs.Exchange.{ended, started}
+use Rattle.control.specs.Control.{inPhase, showing, choosing, arraycounterAt, securitycounterAt, idlockedNow, configured, wpAt}
+use Rattle.control.specs.Exchange.{standbyNow, busyNow}
 use Rattle.addressing.specs.declared.Call.{Call}
 use Rattle.addressing.specs.declared.Call.the-variants.{ReadArray, WriteArray, ReadRegister, WriteRegister, HostF8, HostF9, Nobody}
 use Rattle.addressing.specs.Address.{callOf, takeCall, takeAddress, takeChosen, takeChoice}
-use Rattle.words.specs.declared.Register.{Register}
-use Rattle.words.specs.declared.Register.the-variants.{Security, Configuration, Lock, Nowhere}
-use Rattle.words.specs.Word.{registerOf, isLock, takeNamed, takeWord}
+use Rattle.wordaddress.specs.declared.Register.{Register}
+use Rattle.wordaddress.specs.declared.Register.the-variants.{Security, Configuration, Lock, Nowhere}
+use Rattle.wordaddress.specs.WordAddress.{registerOf, isLock, takeNamed, takeWord}
 use Rattle.taking.specs.Taking.{takeData, takeIn, take}
 use Rattle.sending.specs.Sending.{movedPast, readIn, read}
-use Rattle.control.specs.Bits.{lock}
+use Rattle.control.specs.Bits.{configlock}
 use Rattle.configuration.specs.Configuration.{confirms, stopConfiguration}
 use Rattle.cycle.specs.Stop.{writesArray, writesSecurity, stopData, stopIn, stop}
 use Rattle.chip.specs.declared.Chip.{Chip}
@@ -45,11 +45,11 @@ pub record Closed (P : Control → Type 0) : Type 0 where
   pub phase : (c : Control) (phase : Phase) → P c → P (inPhase phase c)
   pub shown : (c : Control) (shown : Shown) → P c → P (showing shown c)
   pub chosen : (c : Control) (picked : Bool) → P c → P (choosing picked c)
-  pub array : (c : Control) (at : ℕ) → P c → P (arrayAt at c)
-  pub security : (c : Control) (at : ℕ) → P c → P (securityAt at c)
+  pub array : (c : Control) (at : ℕ) → P c → P (arraycounterAt at c)
+  pub security : (c : Control) (at : ℕ) → P c → P (securitycounterAt at c)
   pub wp : (c : Control) (level : Bool) → P c → P (wpAt level c)
-  pub locks : (c : Control) → c .locked ≡ false → P c → P (lockedNow c)
-  pub configures : (c : Control) (byte0 byte1 : ℕ) → lock c ≡ false → P c → P (configured byte0 byte1 c)
+  pub locks : (c : Control) → c .idlocked ≡ false → P c → P (idlockedNow c)
+  pub configures : (c : Control) (byte0 byte1 : ℕ) → configlock c ≡ false → P c → P (configured byte0 byte1 c)
 
 module _ (P : Control → Type 0) (closed : Closed P) where
   -- a phase after a choice dropped or made
@@ -81,20 +81,20 @@ module _ (P : Control → Type 0) (closed : Closed P) where
   named-keeps : (register : Register) (first : ℕ) (c : Control) (byte : ℕ) → P c → P (takeNamed register first c byte .control)
   named-keeps Security first c byte p = closed .phase _ _ (closed .shown _ _ (closed .security c _ p))
   named-keeps Configuration first c byte p = closed .phase _ _ (closed .shown c _ p)
-  named-keeps Lock first c byte p = told (c .locked) _ _ (closed .phase c _ p) (closed .phase _ _ (closed .shown c _ p))
+  named-keeps Lock first c byte p = told (c .idlocked) _ _ (closed .phase c _ p) (closed .phase _ _ (closed .shown c _ p))
   named-keeps Nowhere first c byte p = closed .phase _ _ (closed .shown c _ p)
 
   word-keeps : (word : Word) (c : Control) (byte : ℕ) → P c → P (takeWord word c byte .control)
   word-keeps (ArrayFirst a16) c byte p = closed .phase c _ p
   word-keeps (ArraySecond a16 first) c byte p = closed .phase _ _ (closed .array c _ p)
-  word-keeps RegisterFirst c byte p = told (c .locked && isLock (registerOf byte)) _ _ (closed .phase c _ p) (closed .phase c _ p)
+  word-keeps RegisterFirst c byte p = told (c .idlocked && isLock (registerOf byte)) _ _ (closed .phase c _ p) (closed .phase c _ p)
   word-keeps (RegisterSecond first) c byte p = named-keeps (registerOf first) first c byte p
 
   data-keeps : (kind : Data) (c : Control) (byte : ℕ) → P c → P (takeData kind c byte .control)
   data-keeps ToArray c byte p = closed .phase _ _ (closed .array c _ p)
   data-keeps ToSecurity c byte p = closed .phase _ _ (closed .security c _ p)
   data-keeps (ToConfiguration came) c byte p = closed .phase c _ p
-  data-keeps (ToLock some) c byte p = told (c .locked) _ _ (closed .phase c _ p) (closed .phase c _ p)
+  data-keeps (ToLock some) c byte p = told (c .idlocked) _ _ (closed .phase c _ p) (closed .phase c _ p)
   data-keeps ToNowhere c byte p = closed .phase c _ p
 
   take-keeps : (phase : Phase) (c : Control) (byte : ℕ) → P c → P (takeIn phase c byte .control)
@@ -125,20 +125,20 @@ module _ (P : Control → Type 0) (closed : Closed P) where
       either P nack (inPhase Standby (movedPast source c)) (movedPast source c) (closed .phase _ _ (moved-keeps source c p)) (moved-keeps source c p)
 
   -- a test that names the lock: where it holds, the lock is open
-  configure-keeps : (first second third : ℕ) (c : Control) → P c → (test : Bool) → (confirms first third && not (lock c)) ≡ test → P (cond test (started (configured (first % 4) second c)) (ended c))
+  configure-keeps : (first second third : ℕ) (c : Control) → P c → (test : Bool) → (confirms first third && not (configlock c)) ≡ test → P (cond test (busyNow (configured (first % 4) second c)) (standbyNow c))
   configure-keeps first second third c p true is =
-      after _ false Busy (closed .configures c (first % 4) second (not-true (lock c) (and-right (confirms first third) _ is)) p)
+      after _ false Busy (closed .configures c (first % 4) second (not-true (configlock c) (and-right (confirms first third) _ is)) p)
   configure-keeps first second third c p false is = after c false Standby p
 
-  lock-keeps : (some : Bool) (c : Control) → P c → (test : Bool) → (some && not (c .locked)) ≡ test → P (cond test (started (lockedNow c)) (ended c))
-  lock-keeps some c p true is = after _ false Busy (closed .locks c (not-true (c .locked) (and-right some _ is)) p)
+  lock-keeps : (some : Bool) (c : Control) → P c → (test : Bool) → (some && not (c .idlocked)) ≡ test → P (cond test (busyNow (idlockedNow c)) (standbyNow c))
+  lock-keeps some c p true is = after _ false Busy (closed .locks c (not-true (c .idlocked) (and-right some _ is)) p)
   lock-keeps some c p false is = after c false Standby p
 
   came-keeps : (came : Came) (c : Control) → P c → P (stopConfiguration came c)
   came-keeps Zero c p = after c false Standby p
   came-keeps (One first) c p = after c false Standby p
   came-keeps (Two first second) c p = after c false Standby p
-  came-keeps (Three first second third) c p = configure-keeps first second third c p (confirms first third && not (lock c)) refl
+  came-keeps (Three first second third) c p = configure-keeps first second third c p (confirms first third && not (configlock c)) refl
   came-keeps More c p = after c false Standby p
 
   ends-keep : (kind : Data) (c : Control) (load : Load) (array security : List ℕ) → P c → P (stopData kind c load array security .0)
@@ -147,7 +147,7 @@ module _ (P : Control → Type 0) (closed : Closed P) where
   ends-keep ToSecurity c load array security p =
       either (λ (x : Control × List ℕ). P (x .0)) (writesSecurity c load) _ _ (after c false Busy p) (after c false Standby p)
   ends-keep (ToConfiguration came) c load array security p = came-keeps came c p
-  ends-keep (ToLock some) c load array security p = lock-keeps some c p (some && not (c .locked)) refl
+  ends-keep (ToLock some) c load array security p = lock-keeps some c p (some && not (c .idlocked)) refl
   ends-keep ToNowhere c load array security p = after c false Standby p
 
   stop-keeps : (phase : Phase) (c : Control) (load : Load) (array security : List ℕ) → P c → P (stopIn phase c load array security .0)

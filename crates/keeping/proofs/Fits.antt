@@ -10,13 +10,13 @@ use Rattle.control.specs.declared.Control.{Control}
 use Rattle.control.specs.declared.phase.Phase.{Phase}
 use Rattle.control.specs.declared.phase.Shown.{Shown}
 use Rattle.control.specs.Phase.{isBusy}
-use Rattle.control.specs.Control.{inPhase, showing, choosing, arrayAt, securityAt, lockedNow, configured, wpAt}
+use Rattle.control.specs.Control.{inPhase, showing, choosing, arraycounterAt, securitycounterAt, idlockedNow, configured, wpAt}
 use Rattle.wellformed.specs.Wellformed.{isSetUp, countersFit, placeFits, unusedBitsClear, busyNotChosen, controlFits}
 
 pub record Fits (c : Control) : Type 0 where
   pub set-up : isSetUp c ≡ true
-  pub array : ltb (c .array) (geometryOf (c .part) .array) ≡ true
-  pub security : ltb (c .security) (geometryOf (c .part) .security) ≡ true
+  pub array : ltb (c .arraycounter) (geometryOf (c .part) .array) ≡ true
+  pub security : ltb (c .securitycounter) (geometryOf (c .part) .security) ≡ true
   pub unused : unusedBitsClear c ≡ true
   pub place : placeFits (c .phase) ≡ true
   pub busy : busyNotChosen c ≡ true
@@ -30,7 +30,7 @@ apart c all =
     record {
       set-up = and-left _ _ front;
       array = and-left _ _ counters;
-      security = and-right (ltb (c .array) (geometryOf (c .part) .array)) _ counters;
+      security = and-right (ltb (c .arraycounter) (geometryOf (c .part) .array)) _ counters;
       unused = and-left _ _ registers;
       place = and-right (unusedBitsClear c) _ registers;
       busy = and-right (unusedBitsClear c && placeFits (c .phase)) _ back;
@@ -47,8 +47,8 @@ module _ (c : Control) (f : Fits c) where
   pub showing-fits : (shown : Shown) → Fits (showing shown c)
   showing-fits shown = apart (showing shown c) (together c f)
 
-  pub locked-fits : Fits (lockedNow c)
-  locked-fits = apart (lockedNow c) (together c f)
+  pub idlocked-fits : Fits (idlockedNow c)
+  idlocked-fits = apart (idlockedNow c) (together c f)
 
   pub wp-fits : (level : Bool) → Fits (wpAt level c)
   wp-fits level = apart (wpAt level c) (together c f)
@@ -62,11 +62,11 @@ module _ (c : Control) (f : Fits c) where
   choosing-fits picked busy =
       record { set-up = f .set-up; array = f .array; security = f .security; unused = f .unused; place = f .place; busy = busy }
 
-  pub array-fits : (at : ℕ) → at < geometryOf (c .part) .array → Fits (arrayAt at c)
+  pub array-fits : (at : ℕ) → at < geometryOf (c .part) .array → Fits (arraycounterAt at c)
   array-fits at inside =
       record { set-up = f .set-up; array = lt-ltb _ _ inside; security = f .security; unused = f .unused; place = f .place; busy = f .busy }
 
-  pub security-fits : (at : ℕ) → at < geometryOf (c .part) .security → Fits (securityAt at c)
+  pub security-fits : (at : ℕ) → at < geometryOf (c .part) .security → Fits (securitycounterAt at c)
   security-fits at inside =
       record { set-up = f .set-up; array = f .array; security = lt-ltb _ _ inside; unused = f .unused; place = f .place; busy = f .busy }
 

@@ -12,7 +12,7 @@ use Rattle.control.specs.declared.phase.Phase.the-variants.{Standby, Busy, Take
 use Rattle.control.specs.declared.phase.Data.{Data}
 use Rattle.control.specs.Phase.{isBusy}
 use Rattle.control.specs.Control.{inPhase, choosing}
-use Rattle.control.specs.Exchange.{ended, started}
+use Rattle.control.specs.Exchange.{standbyNow, busyNow}
 use Rattle.wellformed.specs.Wellformed.{loadMost}
 use Rattle.keeping.proofs.Fits.{Fits, in-phase-fits, choosing-fits}
 use Rattle.load.specs.Load.{empty}
@@ -34,11 +34,11 @@ module _ (c : Control) (f : Fits c) where
   pub dropped : Fits (choosing false c)
   dropped = choosing-fits c f false (unchosen (isBusy (c .phase)))
 
-  pub ended-fits : Fits (ended c)
-  ended-fits = in-phase-fits _ dropped Standby refl refl
+  pub standby-now-fits : Fits (standbyNow c)
+  standby-now-fits = in-phase-fits _ dropped Standby refl refl
 
-  pub started-fits : Fits (started c)
-  started-fits = in-phase-fits _ dropped Busy refl refl
+  pub busy-now-fits : Fits (busyNow c)
+  busy-now-fits = in-phase-fits _ dropped Busy refl refl
 
 module _ (c : Control) (load : Load) (f : Fits c) (empty : within 0 load ≡ true) where
   -- a chip that takes no data keeps an empty load empty

@@ -3,7 +3,7 @@ use Prim.Native.Nat.{ℕ}
 use mathlib.Core.List.{List}
 use mathlib.Core.Path.{_≡_, refl}
 use lib.ListN.{length}
-use Rattle.base.proofs.test.Laws.{either}
+use Rattle.base.proofs.logic.Laws.{either}
 use Rattle.parts.specs.Part.{geometryOf}
 use Rattle.load.specs.declared.Load.{Load}
 use Rattle.load.proofs.Laws.{store-page-length}
@@ -22,9 +22,9 @@ Long array security array′ security′ = (length array′ ≡ length array) ×
 
 ends-long : (c : Control) (load : Load) (array security : List ℕ) (kind : Data) → Long array security (stopData kind c load array security .1) (stopData kind c load array security .2)
 ends-long c load array security ToArray =
-    (either (λ (x : Control × List ℕ). length (x .1) ≡ length array) (writesArray c load) _ _ (store-page-length (geometryOf (c .part)) (c .array) load array) refl, refl)
+    (either (λ (x : Control × List ℕ). length (x .1) ≡ length array) (writesArray c load) _ _ (store-page-length (geometryOf (c .part)) (c .arraycounter) load array) refl, refl)
 ends-long c load array security ToSecurity =
-    (refl, either (λ (x : Control × List ℕ). length (x .1) ≡ length security) (writesSecurity c load) _ _ (store-page-length (geometryOf (c .part)) (c .security) load security) refl)
+    (refl, either (λ (x : Control × List ℕ). length (x .1) ≡ length security) (writesSecurity c load) _ _ (store-page-length (geometryOf (c .part)) (c .securitycounter) load security) refl)
 ends-long c load array security (ToConfiguration came) = (refl, refl)
 ends-long c load array security (ToLock some) = (refl, refl)
 ends-long c load array security ToNowhere = (refl, refl)

@@ -2,7 +2,7 @@
 use Prim.Native.Nat.{ℕ}
 use mathlib.Core.List.{List}
 use Rattle.base.specs.Every.{FitsByte}
-use Rattle.base.proofs.test.Laws.{either}
+use Rattle.base.proofs.logic.Laws.{either}
 use Rattle.parts.specs.Part.{geometryOf}
 use Rattle.load.specs.declared.Load.{Load}
 use Rattle.load.specs.Load.{emptied, put}
@@ -21,10 +21,10 @@ use Rattle.keeping.specs.Bytes.{EventByte}
 
 module _ (c : Chip) (array security : List ℕ) (P : Load → Type 0) (now : P (c .load)) (without : P (emptied (c .load))) (with : (at byte : ℕ) → FitsByte byte → P (put (geometryOf (c .control .part)) at byte (c .load))) where
   to-data : (kind : Data) (byte : ℕ) → FitsByte byte → P (loadedData kind (c .load) (c .control) byte)
-  to-data ToArray byte sent = with (c .control .array) byte sent
-  to-data ToSecurity byte sent = with (c .control .security) byte sent
+  to-data ToArray byte sent = with (c .control .arraycounter) byte sent
+  to-data ToSecurity byte sent = with (c .control .securitycounter) byte sent
   to-data (ToConfiguration came) byte sent = now
-  to-data (ToLock some) byte sent = either P (c .control .locked) (emptied (c .load)) (c .load) without now
+  to-data (ToLock some) byte sent = either P (c .control .idlocked) (emptied (c .load)) (c .load) without now
   to-data ToNowhere byte sent = now
 
   to-phase : (phase : Phase) (byte : ℕ) → FitsByte byte → P (loadedIn phase (c .load) (c .control) byte)

@@ -18,7 +18,7 @@ use Rattle.load.proofs.Laws.{store-page-before}
 use Rattle.control.specs.declared.Control.{Control}
 use Rattle.control.specs.declared.phase.Data.{Data}
 use Rattle.control.specs.declared.phase.Data.the-variants.{ToArray, ToSecurity, ToConfiguration, ToLock, ToNowhere}
-use Rattle.control.specs.Exchange.{ended, started}
+use Rattle.control.specs.Exchange.{standbyNow, busyNow}
 use Rattle.protection.specs.Protection.{idPageProtected}
 use Rattle.cycle.specs.Stop.{writesSecurity, stopData}
 use Rattle.chip.specs.declared.Chip.{Chip}
@@ -28,18 +28,18 @@ use Rattle.keeping.proofs.Shares.{shares-keep}
 
 module _ (c : Control) (load : Load) (array security : List ℕ) (i d : ℕ) (inside : i < geometryOf (c .part) .readonly) where
   -- what is stored lies in the ID page
-  behind : writesSecurity c load ≡ true → geometryOf (c .part) .readonly ≤ c .security
+  behind : writesSecurity c load ≡ true → geometryOf (c .part) .readonly ≤ c .securitycounter
   behind writes =
-      let writable : (inIdPage (geometryOf (c .part)) (c .security) && not (idPageProtected c)) ≡ true = and-right (holds (geometryOf (c .part)) load) _ writes in
-      let inside-page : inIdPage (geometryOf (c .part)) (c .security) ≡ true = and-left _ _ writable in
+      let writable : (inIdPage (geometryOf (c .part)) (c .securitycounter) && not (idPageProtected c)) ≡ true = and-right (holds (geometryOf (c .part)) load) _ writes in
+      let inside-page : inIdPage (geometryOf (c .part)) (c .securitycounter) ≡ true = and-left _ _ writable in
       leb-true _ _ (and-left _ _ inside-page)
 
-  stored : geometryOf (c .part) .readonly ≤ c .security → getD (storePage (geometryOf (c .part)) (c .security) load security) i d ≡ getD security i d
+  stored : geometryOf (c .part) .readonly ≤ c .securitycounter → getD (storePage (geometryOf (c .part)) (c .securitycounter) load security) i d ≡ getD security i d
   stored from =
-      store-page-before (geometryOf (c .part)) (c .security) load security i d
-      (omega (arith, page-behind (geometryOf (c .part)) (sound-of (c .part)) (c .security) (geometryOf (c .part) .readonly) (sound-of (c .part) .readonly-whole) from))
+      store-page-before (geometryOf (c .part)) (c .securitycounter) load security i d
+      (omega (arith, page-behind (geometryOf (c .part)) (sound-of (c .part)) (c .securitycounter) (geometryOf (c .part) .readonly) (sound-of (c .part) .readonly-whole) from))
 
-  written : (writes : Bool) → writesSecurity c load ≡ writes → getD (cond {A = Control × List ℕ} writes (started c, storePage (geometryOf (c .part)) (c .security) load security) (ended c, security) .1) i d ≡ getD security i d
+  written : (writes : Bool) → writesSecurity c load ≡ writes → getD (cond {A = Control × List ℕ} writes (busyNow c, storePage (geometryOf (c .part)) (c .securitycounter) load security) (standbyNow c, security) .1) i d ≡ getD security i d
   written true is = stored (behind is)
   written false is = refl
 

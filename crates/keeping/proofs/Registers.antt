@@ -5,8 +5,8 @@ use mathlib.Core.List.{List}
 use mathlib.Core.Path.{_≡_, _∙_, refl, sym, ap}
 use Rattle.base.specs.Bit.{bitOf}
 use Rattle.control.specs.declared.Control.{Control}
-use Rattle.control.specs.Control.{lockedNow, configured}
-use Rattle.control.specs.Bits.{lock}
+use Rattle.control.specs.Control.{idlockedNow, configured}
+use Rattle.control.specs.Bits.{configlock}
 use Rattle.chip.specs.declared.Chip.{Chip}
 use Rattle.chip.specs.declared.event.Event.{Event}
 use Rattle.chip.specs.Chip.{step}
@@ -16,17 +16,17 @@ use Rattle.keeping.proofs.Closed.{Closed, step-keeps}
 pub record Registers : Type 0 where
   pub part : ℕ
   pub strap : ℕ
-  pub locked : Bool
+  pub idlocked : Bool
   pub config0 : ℕ
   pub config1 : ℕ
 
 abbrev registers : Control → Registers
-registers c = record { part = c .part; strap = c .strap; locked = c .locked; config0 = c .config0; config1 = c .config1 }
+registers c = record { part = c .part; strap = c .strap; idlocked = c .idlocked; config0 = c .config0; config1 = c .config1 }
 
 -- all setters but two leave them
 leave : (Q : Registers → Type 0)
-    → ((c : Control) → c .locked ≡ false → Q (registers c) → Q (registers (lockedNow c)))
-    → ((c : Control) (byte0 byte1 : ℕ) → lock c ≡ false → Q (registers c) → Q (registers (configured byte0 byte1 c)))
+    → ((c : Control) → c .idlocked ≡ false → Q (registers c) → Q (registers (idlockedNow c)))
+    → ((c : Control) (byte0 byte1 : ℕ) → configlock c ≡ false → Q (registers c) → Q (registers (configured byte0 byte1 c)))
     → Closed (λ (c : Control). Q (registers c))
 leave Q locks configures =
     record {
@@ -58,12 +58,12 @@ module _ (c : Chip) (array security : List ℕ) (event : Event) where
       let Q : Registers → Type 0 = λ r. r .strap ≡ c .control .strap in
       keep Q (leave Q (λ d free is. is) (λ d byte0 byte1 free is. is)) refl
 
-  pub id-lock-kept : c .control .locked ≡ true → next c array security event .locked ≡ true
+  pub id-lock-kept : c .control .idlocked ≡ true → next c array security event .idlocked ≡ true
   id-lock-kept is-locked =
-      let Q : Registers → Type 0 = λ r. r .locked ≡ true in
+      let Q : Registers → Type 0 = λ r. r .idlocked ≡ true in
       keep Q (leave Q (λ d free is. refl) (λ d byte0 byte1 free is. is)) is-locked
 
-  pub configuration-lock-kept : lock (c .control) ≡ true → (next c array security event .config0 ≡ c .control .config0) × (next c array security event .config1 ≡ c .control .config1)
+  pub configuration-lock-kept : configlock (c .control) ≡ true → (next c array security event .config0 ≡ c .control .config0) × (next c array security event .config1 ≡ c .control .config1)
   configuration-lock-kept is-locked =
       let Q : Registers → Type 0 = λ r. (r .config0 ≡ c .control .config0) × (r .config1 ≡ c .control .config1) in
       keep Q (leave Q (λ d free is. is) (λ d byte0 byte1 free is. absurd (false≢true (sym free ∙ ap (λ (byte : ℕ). bitOf byte 0) (is .0) ∙ is-locked)))) (refl, refl)

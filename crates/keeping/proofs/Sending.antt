@@ -42,8 +42,8 @@ module _ (c : Control) (load : Load) (f : Fits c) (empty : within 0 load ≡ tru
 
 moved-good : (source : Source) (c : Control) (load : Load) → c .phase ≡ SendsByte source → Good c load → Good (movedPast source c) load
 moved-good FromArray c load is good =
-    (array-fits c (good .0) _ (next-below _ (c .array) (array-some (sound-of (c .part)))), good .1)
-moved-good FromSecurity c load is good = (security-fits c (good .0) _ (next-below _ (c .security) (sound-of (c .part) .security-some)), good .1)
+    (array-fits c (good .0) _ (next-below _ (c .arraycounter) (array-some (sound-of (c .part)))), good .1)
+moved-good FromSecurity c load is good = (security-fits c (good .0) _ (next-below _ (c .securitycounter) (sound-of (c .part) .security-some)), good .1)
 moved-good (FromConfiguration second) c load is good = sends c load (good .0) (rw is at (good .1)) (FromConfiguration (not second)) refl
 moved-good (FromId place) c load is good = sends c load (good .0) (rw is at (good .1)) (FromId (nextIdPlace place)) (next-id-fits place)
 moved-good FromNothing c load is good = good

@@ -4,7 +4,7 @@ use native.Mathlib.Nat.{mod-lt}
 use native.Mathlib.Omega.{arith}
 use mathlib.Core.Bool.{not, _&&_}
 use mathlib.Core.List.{List}
-use Rattle.base.proofs.test.Laws.{either}
+use Rattle.base.proofs.logic.Laws.{either}
 use Rattle.load.specs.declared.Load.{Load}
 use Rattle.control.specs.declared.Control.{Control}
 use Rattle.control.specs.declared.phase.Phase.{Phase}
@@ -13,40 +13,40 @@ use Rattle.control.specs.declared.phase.Data.{Data}
 use Rattle.control.specs.declared.phase.Data.the-variants.{ToArray, ToSecurity, ToConfiguration, ToLock, ToNowhere}
 use Rattle.control.specs.declared.phase.Came.{Came}
 use Rattle.control.specs.declared.phase.Came.the-variants.{Zero, One, Two, Three, More}
-use Rattle.control.specs.Control.{lockedNow, configured}
-use Rattle.control.specs.Exchange.{ended, started}
-use Rattle.control.specs.Bits.{lock}
+use Rattle.control.specs.Control.{idlockedNow, configured}
+use Rattle.control.specs.Exchange.{standbyNow, busyNow}
+use Rattle.control.specs.Bits.{configlock}
 use Rattle.configuration.specs.Configuration.{confirms, stopConfiguration}
 use Rattle.cycle.specs.Stop.{writesArray, writesSecurity, stopData, stopIn}
-use Rattle.keeping.proofs.Fits.{Fits, locked-fits, configured-fits}
-use Rattle.keeping.proofs.Good.{ended-fits, started-fits}
+use Rattle.keeping.proofs.Fits.{Fits, idlocked-fits, configured-fits}
+use Rattle.keeping.proofs.Good.{standby-now-fits, busy-now-fits}
 
 -- a Stop: whatever it does, the load is gone after it
 came-fits : (came : Came) (c : Control) → Fits c → Fits (stopConfiguration came c)
-came-fits Zero c f = ended-fits c f
-came-fits (One first) c f = ended-fits c f
-came-fits (Two first second) c f = ended-fits c f
+came-fits Zero c f = standby-now-fits c f
+came-fits (One first) c f = standby-now-fits c f
+came-fits (Two first second) c f = standby-now-fits c f
 came-fits (Three first second third) c f =
-    either Fits (confirms first third && not (lock c)) (started (configured (first % 4) second c)) (ended c)
-    (started-fits _ (configured-fits c f (first % 4) second (mod-lt first (omega arith))))
-    (ended-fits c f)
-came-fits More c f = ended-fits c f
+    either Fits (confirms first third && not (configlock c)) (busyNow (configured (first % 4) second c)) (standbyNow c)
+    (busy-now-fits _ (configured-fits c f (first % 4) second (mod-lt first (omega arith))))
+    (standby-now-fits c f)
+came-fits More c f = standby-now-fits c f
 
 data-fits : (kind : Data) (c : Control) (load : Load) (array security : List ℕ) → Fits c → Fits (stopData kind c load array security .0)
 data-fits ToArray c load array security f =
-    either (λ (x : Control × List ℕ). Fits (x .0)) (writesArray c load) _ _ (started-fits c f) (ended-fits c f)
+    either (λ (x : Control × List ℕ). Fits (x .0)) (writesArray c load) _ _ (busy-now-fits c f) (standby-now-fits c f)
 data-fits ToSecurity c load array security f =
-    either (λ (x : Control × List ℕ). Fits (x .0)) (writesSecurity c load) _ _ (started-fits c f) (ended-fits c f)
+    either (λ (x : Control × List ℕ). Fits (x .0)) (writesSecurity c load) _ _ (busy-now-fits c f) (standby-now-fits c f)
 data-fits (ToConfiguration came) c load array security f = came-fits came c f
 data-fits (ToLock some) c load array security f =
-    either Fits (some && not (c .locked)) (started (lockedNow c)) (ended c) (started-fits _ (locked-fits c f)) (ended-fits c f)
-data-fits ToNowhere c load array security f = ended-fits c f
+    either Fits (some && not (c .idlocked)) (busyNow (idlockedNow c)) (standbyNow c) (busy-now-fits _ (idlocked-fits c f)) (standby-now-fits c f)
+data-fits ToNowhere c load array security f = standby-now-fits c f
 
 pub stop-fits : (phase : Phase) (c : Control) (load : Load) (array security : List ℕ) → Fits c → Fits (stopIn phase c load array security .0)
-stop-fits Standby c load array security f = ended-fits c f
+stop-fits Standby c load array security f = standby-now-fits c f
 stop-fits Busy c load array security f = f
-stop-fits AwaitsAddress c load array security f = ended-fits c f
-stop-fits AwaitsChoice c load array security f = ended-fits c f
-stop-fits (AwaitsWord word) c load array security f = ended-fits c f
+stop-fits AwaitsAddress c load array security f = standby-now-fits c f
+stop-fits AwaitsChoice c load array security f = standby-now-fits c f
+stop-fits (AwaitsWord word) c load array security f = standby-now-fits c f
 stop-fits (TakesData kind) c load array security f = data-fits kind c load array security f
-stop-fits (SendsByte source) c load array security f = ended-fits c f
+stop-fits (SendsByte source) c load array security f = standby-now-fits c f

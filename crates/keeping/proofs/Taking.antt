@@ -4,7 +4,7 @@ use Prim.Native.Nat.{ℕ, _<_}
 use mathlib.Core.Bool.{Bool, true, false, cond, _&&_}
 use mathlib.Core.Path.{_≡_, refl}
 use borrow.Author.Tests.{ltb-true}
-use Rattle.base.proofs.test.Laws.{either}
+use Rattle.base.proofs.logic.Laws.{either}
 use Rattle.parts.specs.Part.{geometryOf, Sound}
 use Rattle.parts.proofs.part.Laws.{sound-of}
 use Rattle.regions.proofs.page.Laws.{place-below, next-inside}
@@ -29,9 +29,9 @@ use Rattle.control.specs.Said.{acked, silent}
 use Rattle.addressing.specs.declared.Call.{Call}
 use Rattle.addressing.specs.declared.Call.the-variants.{ReadArray, WriteArray, ReadRegister, WriteRegister, HostF8, HostF9, Nobody}
 use Rattle.addressing.specs.Address.{callOf, sourceOf, takeCall, takeAddress, takeChosen, takeChoice}
-use Rattle.words.specs.declared.Register.{Register}
-use Rattle.words.specs.declared.Register.the-variants.{Security, Configuration, Lock, Nowhere}
-use Rattle.words.specs.Word.{registerOf, isLock, takeNamed, takeWord}
+use Rattle.wordaddress.specs.declared.Register.{Register}
+use Rattle.wordaddress.specs.declared.Register.the-variants.{Security, Configuration, Lock, Nowhere}
+use Rattle.wordaddress.specs.WordAddress.{registerOf, isLock, takeNamed, takeWord}
 use Rattle.taking.specs.Taking.{takeData, takeIn, loadedData, loadedIn}
 use Rattle.wellformed.specs.Wellformed.{idPlaceFits}
 use Rattle.keeping.proofs.Fits.{Fits, in-phase-fits, showing-fits, choosing-fits, array-fits, security-fits}
@@ -74,7 +74,7 @@ module _ (c : Control) (load : Load) (f : Fits c) (empty : within 0 load ≡ tru
       begins _ load (showing-fits _ set ShowsSecurity) empty ToSecurity
   named-good Configuration first byte = begins _ load (showing-fits c f ShowsConfiguration) empty (ToConfiguration Zero)
   named-good Lock first byte =
-      either (λ (x : Answered). Good (x .control) load) (c .locked) (silent Standby c) (acked (TakesData (ToLock false)) (showing ShowsNothing c))
+      either (λ (x : Answered). Good (x .control) load) (c .idlocked) (silent Standby c) (acked (TakesData (ToLock false)) (showing ShowsNothing c))
       (standby c load f empty)
       (begins _ load (showing-fits c f ShowsNothing) empty (ToLock false))
   named-good Nowhere first byte = begins _ load (showing-fits c f ShowsNothing) empty ToNowhere
@@ -84,7 +84,7 @@ module _ (c : Control) (load : Load) (f : Fits c) (empty : within 0 load ≡ tru
   word-good (ArraySecond a16 first) byte =
       begins _ load (array-fits c f _ (array-counter-below _ (sound-of (c .part)) a16 first byte)) empty ToArray
   word-good RegisterFirst byte =
-      either (λ (x : Answered). Good (x .control) load) (c .locked && isLock (registerOf byte)) (silent Standby c) (acked (AwaitsWord (RegisterSecond byte)) c)
+      either (λ (x : Answered). Good (x .control) load) (c .idlocked && isLock (registerOf byte)) (silent Standby c) (acked (AwaitsWord (RegisterSecond byte)) c)
       (standby c load f empty)
       (in-phase-fits c f (AwaitsWord (RegisterSecond byte)) refl refl, empty)
   word-good (RegisterSecond first) byte = named-good (registerOf first) first byte
@@ -103,15 +103,15 @@ module _ (c : Control) (load : Load) (f : Fits c) (paged : within (page c) load 
 
   data-good : (kind : Data) (byte : ℕ) → Good (takeData kind c byte .control) (loadedData kind load c byte)
   data-good ToArray byte =
-      let inside : c .array < geometryOf (c .part) .array = ltb-true _ _ (f .array) in
-      let moved = array-fits c f _ (next-inside _ sound (c .array) (geometryOf (c .part) .array) (sound .array-whole) inside) in
-      (in-phase-fits _ moved (TakesData ToArray) refl refl, within-put (geometryOf (c .part)) (c .array) byte (page c) load (place-below _ sound (c .array)) paged)
+      let inside : c .arraycounter < geometryOf (c .part) .array = ltb-true _ _ (f .array) in
+      let moved = array-fits c f _ (next-inside _ sound (c .arraycounter) (geometryOf (c .part) .array) (sound .array-whole) inside) in
+      (in-phase-fits _ moved (TakesData ToArray) refl refl, within-put (geometryOf (c .part)) (c .arraycounter) byte (page c) load (place-below _ sound (c .arraycounter)) paged)
   data-good ToSecurity byte =
-      let inside : c .security < geometryOf (c .part) .security = ltb-true _ _ (f .security) in
-      let moved = security-fits c f _ (next-inside _ sound (c .security) (geometryOf (c .part) .security) (sound .security-whole) inside) in
-      (in-phase-fits _ moved (TakesData ToSecurity) refl refl, within-put (geometryOf (c .part)) (c .security) byte (page c) load (place-below _ sound (c .security)) paged)
+      let inside : c .securitycounter < geometryOf (c .part) .security = ltb-true _ _ (f .security) in
+      let moved = security-fits c f _ (next-inside _ sound (c .securitycounter) (geometryOf (c .part) .security) (sound .security-whole) inside) in
+      (in-phase-fits _ moved (TakesData ToSecurity) refl refl, within-put (geometryOf (c .part)) (c .securitycounter) byte (page c) load (place-below _ sound (c .securitycounter)) paged)
   data-good (ToConfiguration came) byte = more _
-  data-good (ToLock some) byte = lock-good (c .locked)
+  data-good (ToLock some) byte = lock-good (c .idlocked)
   data-good ToNowhere byte = more _
 
 -- a byte sent

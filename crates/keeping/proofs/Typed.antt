@@ -156,8 +156,8 @@ control-typed : (c : Control) → Fits c → AllBytes (c .config0 ∷ c .config1
 control-typed c f bytes =
     let sound = sound-of (c .part) in
     let strap : c .strap < geometryOf (c .part) .straps = ltb-true _ _ (and-right (isPart (c .part)) _ (f .set-up)) in
-    let array : c .array < geometryOf (c .part) .array = ltb-true _ _ (f .array) in
-    let security : c .security < geometryOf (c .part) .security = ltb-true _ _ (f .security) in (
+    let array : c .arraycounter < geometryOf (c .part) .array = ltb-true _ _ (f .array) in
+    let security : c .securitycounter < geometryOf (c .part) .security = ltb-true _ _ (f .security) in (
       _,
       (
         (_, (_, (_, (_, (_, (_, (_, (_, (_, (_, (_, tt))))))))))),

@@ -14,7 +14,7 @@ use Rattle.chip.specs.declared.Stepped.{Stepped}
 use Rattle.chip.specs.declared.event.Event.{Event}
 use Rattle.chip.specs.declared.event.Event.the-variants.{Start, Stop, Sent, Read, Wp, CycleOver, PowerUp}
 use Rattle.chip.specs.Chip.{quiet, step}
-use Rattle.order.specs.Hearing.{hears}
+use Rattle.decode.specs.Hearing.{hears}
 
 module _ (c : Chip) (array security : List ℕ) where
   abbrev stays : Stepped × List ℕ × List ℕ

@@ -1,3 +1,3 @@
 pub mod Deaf
-pub mod Turn
+pub mod Takes
 pub mod Unique

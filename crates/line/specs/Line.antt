@@ -17,9 +17,9 @@ use Rattle.chip.specs.Chip.{step}
 use Rattle.board.specs.declared.Place.{Place}
 use Rattle.board.specs.Place.{placed}
 use Rattle.board.specs.Shares.{figuresAt, arrayStart, securityStart}
-use Rattle.order.specs.declared.Order.{Order}
-use Rattle.order.specs.Order.{reaches, eventOf}
-use Rattle.order.specs.Hearing.{clashesWith}
+use Rattle.decode.specs.declared.Addressed.{Addressed}
+use Rattle.decode.specs.Decode.{reaches, eventOf}
+use Rattle.decode.specs.Hearing.{clashesWith}
 use Rattle.lineup.specs.Chips.{chipAt, controlAt, placesOf}
 use Rattle.line.specs.declared.Played.{Played}
 
@@ -48,17 +48,17 @@ landed places i world stepped = (
   patched (securityStart places i) (stepped .2) (world .2),
 )
 
--- the turn of chip i
-abbrev pub turnAt : Order → List Place → ℕ → Played × List ℕ × List ℕ → Played × List ℕ × List ℕ
-turnAt order places i world =
-    cond (reaches order i)
-    (landed places i world (step (chipAt (world .0 .chips) i) (arrayShare places i (world .1)) (securityShare places i (world .2)) (eventOf order)))
+-- chip i takes the event, where it reaches it
+abbrev pub chipTakes : Addressed → List Place → ℕ → Played × List ℕ × List ℕ → Played × List ℕ × List ℕ
+chipTakes addressed places i world =
+    cond (reaches addressed i)
+    (landed places i world (step (chipAt (world .0 .chips) i) (arrayShare places i (world .1)) (securityShare places i (world .2)) (eventOf addressed)))
     world
 
--- each chip in turn
-unfoldable pub play : Order → ℕ → List Chip → List ℕ → List ℕ → Played × List ℕ × List ℕ
-play order count chips array security =
-    upTo (turnAt order (placesOf chips)) (placed count) (record { chips = chips; said = Nothing }, array, security)
+-- one chip after the other
+unfoldable pub play : Addressed → ℕ → List Chip → List ℕ → List ℕ → Played × List ℕ × List ℕ
+play addressed count chips array security =
+    upTo (chipTakes addressed (placesOf chips)) (placed count) (record { chips = chips; said = Nothing }, array, security)
 
 -- the reply: where no chip speaks, FF to a byte read and 00 to every other event
 abbrev pub unanswered : Event → ℕ

@@ -1,18 +1,18 @@
 // An event on the line: every chip that it reaches takes it, each on its own shares of the two stores.
+use base::logic::and;
+use base::logic::or;
 use base::number::least;
-use base::test::and;
-use base::test::or;
 use board::PLACES;
 use board::placed;
 use chip::Chip;
 use chip::event::Event;
 use control::Said;
+use decode::Addressed;
+use decode::event_of;
+use decode::hearing::clashes_with;
+use decode::hearing::hears;
+use decode::reaches;
 use lineup::controls_of;
-use order::Order;
-use order::event_of;
-use order::hearing::clashes_with;
-use order::hearing::hears;
-use order::reaches;
 use parts::part::geometry_of;
 ghost use mathlib.Core.Path.{_≡_};
 ghost use Rattle.line.specs.Line.{clash, heard, play, unanswered, lineReply};
@@ -56,18 +56,18 @@ fn heard(before: Said, said: Said) -> Said
     }
 }
 
-// Each chip in turn. Shares are cut at the stores' ends, so that stores of a wrong length are safe too; a step lets none through.
-// The turns are as many as there are places: LLVM then has one way through, and copies the chips once in and once out.
+// One chip after the other. Shares are cut at the stores' ends, so that stores of a wrong length are safe too; a step lets none through.
+// The iterations are as many as there are places: LLVM then has one way through, and copies the chips once in and once out.
 pub fn play(
-    order: Order,
+    addressed: Addressed,
     count: usize,
     chips: [Chip; PLACES],
     array: &mut [u8],
     security: &mut [u8],
 ) -> Played
-    ensures { λ r. ⌜ (r, now (array .exit), now (security .exit)) ≡ play order count chips (now (array .entry)) (now (security .entry)) ⌝ }
+    ensures { λ r. ⌜ (r, now (array .exit), now (security .exit)) ≡ play addressed count chips (now (array .entry)) (now (security .entry)) ⌝ }
 {
-    let event = event_of(order);
+    let event = event_of(addressed);
     let n = placed(count);
     let mut next = chips;
     let mut said = Said::Nothing;
@@ -81,7 +81,7 @@ pub fn play(
         let end = least(at + figures.array as usize, array.len());
         let to = least(from + figures.security as usize, security.len());
         let phase = control.phase;
-        if and(i < n, and(reaches(order, i), hears(event, phase))) {
+        if and(i < n, and(reaches(addressed, i), hears(event, phase))) {
             let stepped = chip.step(&mut array[at..end], &mut security[from..to], event);
             let after = stepped.chip;
             let more = stepped.said;

@@ -1,4 +1,4 @@
--- A loop whose turns go on past a number, and do nothing there: it is the loop up to that number.
+-- A loop whose iterations go on past a number, and do nothing there: it is the loop up to that number.
 use Prim.Native.Nat.{ℕ, _+_, _<_, _≤_}
 use native.Mathlib.Omega.{arith}
 use mathlib.Core.Path.{_≡_, _∙_, sym}
@@ -13,8 +13,8 @@ module _ {A : Type 0} (f : ℕ → A → A) (n : ℕ) (a : A) where
 
   module _ (i : ℕ) {x y : A} (so-far : x ≡ upTo f (least i n) a) where
     pub until-more : i < n → y ≡ f i x → y ≡ upTo f (least (i + 1) n) a
-    until-more below turn =
-        up-end f a (sym (least-first (i + 1) n (omega arith))) (up-more f i a (up-end f a (least-first i n (omega arith)) so-far) turn)
+    until-more below iteration =
+        up-end f a (sym (least-first (i + 1) n (omega arith))) (up-more f i a (up-end f a (least-first i n (omega arith)) so-far) iteration)
 
     pub until-past : n ≤ i → y ≡ x → y ≡ upTo f (least (i + 1) n) a
     until-past past same =

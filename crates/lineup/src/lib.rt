@@ -1,5 +1,5 @@
 // The chips of a line beside each other: the board that they make, and what makes a state well formed.
-use base::test::and;
+use base::logic::and;
 use board::PLACES;
 use board::Place;
 use board::board_verdict;
@@ -48,7 +48,7 @@ pub fn controls_of(chips: [Chip; PLACES]) -> [Control; PLACES]
     controls
 }
 
-// Each chip by itself. The turns are as many as there are places, so that LLVM writes them out and copies no chip.
+// Each chip by itself. The iterations are as many as there are places, so that LLVM writes them out and copies no chip.
 fn chips_fit(n: usize, chips: [Chip; PLACES]) -> bool
     requires { ⌜ n ≤ 4 ⌝ }
     ensures { λ r. ⌜ r ≡ allBelow (λ (i : ℕ). one.wellFormed (chipAt chips i)) n ⌝ }

@@ -54,7 +54,7 @@ impl Load {
         let mut found = false;
         let mut i: usize = 0;
         while i < size {
-            found = base::test::or(self.marks[i], found);
+            found = base::logic::or(self.marks[i], found);
             i += 1;
         }
         found
@@ -69,7 +69,7 @@ impl Load {
         let mut found = false;
         let mut i = base::number::least(most as usize, PAGE_MOST);
         while i < PAGE_MOST {
-            found = base::test::or(marks[i], found);
+            found = base::logic::or(marks[i], found);
             i += 1;
         }
         !found

@@ -1,6 +1,6 @@
 // The page query: a page of a chip where it lies in its store, not a copy, and the question whether there is one (paper, "The two
 // memories").
-use base::test::and;
+use base::logic::and;
 use board::PLACES;
 use board::Place;
 use board::shares::array_start;

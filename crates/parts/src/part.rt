@@ -63,7 +63,7 @@ pub struct Geometry {
 pub fn is_part(part: u8) -> bool
     ensures { λ r. ⌜ r ≡ isPart part ⌝ }
 {
-    base::test::or(part == Part24CSM01::NUMBER, part == Part24CS32::NUMBER)
+    base::logic::or(part == Part24CSM01::NUMBER, part == Part24CS32::NUMBER)
 }
 
 // A number that is no part has the 24CS32's figures, so that every function above is total; no bus lets one through.

@@ -12,7 +12,7 @@ use borrow.Author.Tests.{eqb-true}
 use Rattle.base.proofs.Fold.{and-left, and-right}
 use Rattle.board.specs.declared.Place.{Place}
 use Rattle.transcript.specs.Digit.{isDigit}
-use Rattle.placing.specs.declared.Placing.the-variants.{Named, Unknown}
+use Rattle.placing.specs.declared.NamedPlace.the-variants.{Named, Unknown}
 use Rattle.placing.specs.Placing.{colon, isPlace, placeOf, placeNamed, placesIn, Names}
 
 abbrev passes : List ℕ → Bool

@@ -2,12 +2,12 @@
 use Rattle.base.proofs.Unique.{Unique, same}
 use Rattle.placing.proofs.place_named.Kinds as place-named-kinds
 use Rattle.placing.proofs.place_named.Reads as place-named-reads
-use Rattle.placing.proofs.asked.Asked.bare.Kinds as bare-kinds
-use Rattle.placing.proofs.asked.Asked.bare.Reads as bare-reads
-use Rattle.placing.proofs.asked.Asked.with_chip.Kinds as with-chip-kinds
-use Rattle.placing.proofs.asked.Asked.with_chip.Reads as with-chip-reads
-use Rattle.placing.proofs.asked.Asked.of_paper.Kinds as of-paper-kinds
-use Rattle.placing.proofs.asked.Asked.of_paper.Reads as of-paper-reads
+use Rattle.placing.proofs.layout.Board.bare.Kinds as bare-kinds
+use Rattle.placing.proofs.layout.Board.bare.Reads as bare-reads
+use Rattle.placing.proofs.layout.Board.with_chip.Kinds as with-chip-kinds
+use Rattle.placing.proofs.layout.Board.with_chip.Reads as with-chip-reads
+use Rattle.placing.proofs.layout.Board.of_paper.Kinds as of-paper-kinds
+use Rattle.placing.proofs.layout.Board.of_paper.Reads as of-paper-reads
 
 pub place-named-unique : Unique place-named-kinds.ps place-named-kinds.r place-named-reads.Post
 place-named-unique κs args x y at-x at-y = same

@@ -1,2 +1,2 @@
 pub mod Placing
-pub mod Asked
+pub mod Layout

@@ -7,8 +7,8 @@ use lib.Dec.{eqb}
 use lib.ListN.{length, getD}
 use Rattle.board.specs.declared.Place.{Place}
 use Rattle.transcript.specs.Digit.{digitOf, isDigit}
-use Rattle.placing.specs.declared.Placing.{Placing}
-use Rattle.placing.specs.declared.Placing.the-variants.{Named, Unknown}
+use Rattle.placing.specs.declared.NamedPlace.{NamedPlace}
+use Rattle.placing.specs.declared.NamedPlace.the-variants.{Named, Unknown}
 
 abbrev pub colon : ℕ
 colon = 58
@@ -20,12 +20,12 @@ abbrev pub placeOf : ℕ → ℕ → Place
 placeOf part strap = record { part = digitOf part; strap = digitOf strap }
 
 -- three bytes that are a place; a word of another form names none
-abbrev pub placeNamed : List ℕ → Placing
+abbrev pub placeNamed : List ℕ → NamedPlace
 placeNamed word =
     cond (eqb (length word) 3 && isPlace (getD word 0 0) (getD word 1 0) (getD word 2 0)) (Named (placeOf (getD word 0 0) (getD word 2 0))) Unknown
 
 -- the places that a word stands for
-abbrev pub placesIn : Placing → List Place
+abbrev pub placesIn : NamedPlace → List Place
 placesIn (Named place) = place ∷ []
 placesIn Unknown = []
 

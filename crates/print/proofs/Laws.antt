@@ -12,9 +12,9 @@ use Rattle.base.specs.Word.{highOf, lowOf}
 use Rattle.base.proofs.Fold.{all-at}
 use Rattle.base.specs.Fold.{upTo}
 use Rattle.transcript.specs.Digit.{digitOf, isDigit}
-use Rattle.transcript.specs.Line.{lf, byteOf, lineAt}
+use Rattle.transcript.specs.Frame.{lf, byteOf, frameAt}
 use Rattle.print.specs.Print.{digitText, wordText, printed}
-use Rattle.transcript.specs.declared.line.Line.the-variants.{Event}
+use Rattle.transcript.specs.declared.frame.Frame.the-variants.{Event}
 use Rattle.transcript.proofs.digit.Laws.{is-digit}
 
 reads-back : ℕ → Bool
@@ -36,8 +36,8 @@ abbrev pub within : List ℕ → ℕ → List ℕ → List ℕ
 within before event after = before ++ (wordText event ++ (lf ∷ after))
 
 -- wherever it stands, it reads back as that event
-pub line-back : (event : ℕ) → event < 65536 → (before after : List ℕ) → lineAt (within before event after) (length before) ≡ Event event (length before + 5)
-line-back event fits before after =
+pub frame-back : (event : ℕ) → event < 65536 → (before after : List ℕ) → frameAt (within before event after) (length before) ≡ Event event (length before + 5)
+frame-back event fits before after =
     let long : length (within before event after) ≡ length before + (5 + length after) = omega (arith, length-append before (wordText event ++ (lf ∷ after))) in
     let left : length before < length (within before event after) = omega arith in
     let room : length before + 5 ≤ length (within before event after) = omega arith in
@@ -56,5 +56,5 @@ line-back event fits before after =
     (ap (λ (read : ℕ). Event read (length before + 5)) (omega (arith, byte-back (highOf event) high, byte-back (lowOf event) low)))
 
 -- the first four digits that are printed, and LF, read back as the event
-pub printed-back : (event answer : ℕ) → event < 65536 → lineAt (take 4 (printed event answer) ++ (lf ∷ [])) 0 ≡ Event event 5
-printed-back event answer fits = line-back event fits [] []
+pub printed-back : (event answer : ℕ) → event < 65536 → frameAt (take 4 (printed event answer) ++ (lf ∷ [])) 0 ≡ Event event 5
+printed-back event answer fits = frame-back event fits [] []

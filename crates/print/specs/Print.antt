@@ -4,7 +4,7 @@ use mathlib.Core.Bool.{cond}
 use mathlib.Core.List.{List, [], _∷_, _++_}
 use lib.Dec.{ltb}
 use Rattle.base.specs.Word.{wordOf, highOf, lowOf}
-use Rattle.transcript.specs.Line.{lf}
+use Rattle.transcript.specs.Frame.{lf}
 
 -- the digit for a value below 16: '0' to '9', 'A' to 'F'
 abbrev pub digitText : ℕ → ℕ

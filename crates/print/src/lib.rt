@@ -2,7 +2,7 @@
 use base::word::BYTE;
 use base::word::word_of;
 use transcript::digit;
-use transcript::line::LF;
+use transcript::frame::LF;
 ghost use mathlib.Core.Path.{_≡_};
 ghost use Prim.Native.Nat.{_<_};
 ghost use Rattle.print.specs.Print.{digitText, printed, closing};

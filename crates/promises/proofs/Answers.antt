@@ -17,7 +17,7 @@ use Rattle.refusal.specs.Refusal.{statusIn, answerWord}
 use Rattle.refusal.proofs.Checks.{Given}
 use Rattle.bus.specs.declared.Bus.{Bus}
 use Rattle.bus.specs.Step.{stepChecks, step}
-use Rattle.bus.specs.Run.{Tape, run}
+use Rattle.bus.specs.Run.{Progress, run}
 use Rattle.bus.proofs.Typed.{OfItsType}
 use Rattle.promises.specs.Answers.{ButForItsWord}
 use Rattle.promises.specs.Bytes.{HoldsBytes}
@@ -85,7 +85,7 @@ module _ (bus : Bus) (array security : List ℕ) (typed : OfItsType bus) where
   module _ (events answers : List ℕ) (passes : run bus array security events answers .0 ≡ Passed) where
     word-is : (i : ℕ) → i < length events → getD (run bus array security events answers .1 .3) i 0 ≡ answerTo step (reached events i) (getD events i 0)
     word-is i below =
-        ap (λ (ran : Verdict × Tape). getD (ran .1 .3) i 0) (run-is-its-steps bus array security events answers typed passes)
+        ap (λ (ran : Verdict × Progress). getD (ran .1 .3) i 0) (run-is-its-steps bus array security events answers typed passes)
         ∙ List·getD-append (answersTo step world events) _ 0 i (omega (arith, below, answers-length step world events))
         ∙ answer-at step world events i below
 
@@ -128,9 +128,9 @@ module _ (bus : Bus) (array security : List ℕ) (typed : OfItsType bus) where
         let words′ = answers-append step world before rest in (
           the-word ∙ refused-word (stepped step now word .0 .answer) n some status,
           record {
-            bus = ap (λ (ran : Verdict × Tape). ran .1 .0) with ∙ ap (λ (w : World). w .0) ends ∙ sym (ap (λ (ran : Verdict × Tape). ran .1 .0) without);
-            array = ap (λ (ran : Verdict × Tape). ran .1 .1) with ∙ ap (λ (w : World). w .1) ends ∙ sym (ap (λ (ran : Verdict × Tape). ran .1 .1) without);
-            security = ap (λ (ran : Verdict × Tape). ran .1 .2) with ∙ ap (λ (w : World). w .2) ends ∙ sym (ap (λ (ran : Verdict × Tape). ran .1 .2) without);
+            bus = ap (λ (ran : Verdict × Progress). ran .1 .0) with ∙ ap (λ (w : World). w .0) ends ∙ sym (ap (λ (ran : Verdict × Progress). ran .1 .0) without);
+            array = ap (λ (ran : Verdict × Progress). ran .1 .1) with ∙ ap (λ (w : World). w .1) ends ∙ sym (ap (λ (ran : Verdict × Progress). ran .1 .1) without);
+            security = ap (λ (ran : Verdict × Progress). ran .1 .2) with ∙ ap (λ (w : World). w .2) ends ∙ sym (ap (λ (ran : Verdict × Progress). ran .1 .2) without);
             answers-before = λ i below. rw (with, without, words, words′) (same-before first later _ _ _ i (omega (arith, long, below)));
             answers-behind = λ i below. rw (with, without, words, words′, sym long) (same-behind first later _ _ _ i (omega (arith, below, answers-length step now rest)));
           },

@@ -5,7 +5,7 @@ use native.Mathlib.Omega.{arith}
 use mathlib.Core.List.{List}
 use lib.Dec.{eqb}
 use Rattle.base.specs.Every.{Every, FitsByte, AllBytes}
-use Rattle.base.proofs.test.Laws.{either}
+use Rattle.base.proofs.logic.Laws.{either}
 use Rattle.base.proofs.Fold.{up-keeps}
 use Rattle.base.proofs.Every.{every-at, every-so, every-set, every-span, every-patched}
 use Rattle.control.specs.declared.Said.{Said}
@@ -26,11 +26,11 @@ use Rattle.refusal.specs.Checks.{firstOf}
 use Rattle.board.specs.declared.Place.{Place}
 use Rattle.board.specs.Place.{placed}
 use Rattle.board.specs.Shares.{figuresAt, arrayStart, securityStart}
-use Rattle.order.specs.declared.Order.{Order}
-use Rattle.order.specs.Order.{kindOf, orderOf, reaches, eventOf}
+use Rattle.decode.specs.declared.Addressed.{Addressed}
+use Rattle.decode.specs.Decode.{kindOf, addressedOf, reaches, eventOf}
 use Rattle.lineup.specs.Chips.{noChip, chipAt, placesOf}
 use Rattle.line.specs.declared.Played.{Played}
-use Rattle.line.specs.Line.{arrayShare, securityShare, heard, landed, turnAt, play, unanswered, lineReply}
+use Rattle.line.specs.Line.{arrayShare, securityShare, heard, landed, chipTakes, play, unanswered, lineReply}
 use Rattle.bus.specs.declared.Bus.{Bus}
 use Rattle.bus.specs.declared.Stepped.{Stepped}
 use Rattle.bus.specs.Step.{stepChecks, done, stepBy, played, step}
@@ -38,11 +38,11 @@ use Rattle.bus.proofs.Typed.{OfItsType, every-typed}
 use Rattle.promises.specs.Bytes.{HoldsBytes}
 
 -- an event word brings its low half
-abbrev pub Brings : Order → Type 0
-Brings order = EventByte (eventOf order)
+abbrev pub Brings : Addressed → Type 0
+Brings addressed = EventByte (eventOf addressed)
 
-pub brings-a-byte : (word : ℕ) → Brings (orderOf word)
-unfolding orderOf
+pub brings-a-byte : (word : ℕ) → Brings (addressedOf word)
+unfolding addressedOf
 brings-a-byte word =
     either Brings (eqb (kindOf word) 1) _ _ tt
     (either Brings (eqb (kindOf word) 2) _ _ tt
@@ -52,7 +52,7 @@ brings-a-byte word =
     (either Brings (eqb (kindOf word) 6) _ _ tt
     (either Brings (eqb (kindOf word) 7) _ _ tt tt))))))
 
--- the line while the chips take their turns
+-- the line while one chip after the other takes the event
 abbrev OnLine : Type 0
 OnLine = Played × List ℕ × List ℕ
 
@@ -73,23 +73,23 @@ landed-bytes places i world stepped (chips, said, array, security) (next, word, 
   every-patched FitsByte (securityStart places i) (stepped .2) (world .2) share′ security,
 )
 
-turn-bytes : (order : Order) (places : List Place) → Brings order → (i : ℕ) (world : OnLine) → LineBytes world → LineBytes (turnAt order places i world)
-turn-bytes order places brought i world now =
+takes-bytes : (addressed : Addressed) (places : List Place) → Brings addressed → (i : ℕ) (world : OnLine) → LineBytes world → LineBytes (chipTakes addressed places i world)
+takes-bytes addressed places brought i world now =
     let c = chipAt (world .0 .chips) i in
     let a = arrayShare places i (world .1) in
     let s = securityShare places i (world .2) in
     let in-chip : ChipBytes c = every-at ChipBytes (world .0 .chips) i noChip (now .0) (omega arith) in
     let in-array : AllBytes a = every-span FitsByte (arrayStart places i) (figuresAt places i .array) (world .1) (now .2) in
     let in-security : AllBytes s = every-span FitsByte (securityStart places i) (figuresAt places i .security) (world .2) (now .3) in
-    either LineBytes (reaches order i) _ world
-    (landed-bytes places i world (one-chip.step c a s (eventOf order)) now (bytes-stay-bytes c a s in-chip in-array in-security (eventOf order) brought))
+    either LineBytes (reaches addressed i) _ world
+    (landed-bytes places i world (one-chip.step c a s (eventOf addressed)) now (bytes-stay-bytes c a s in-chip in-array in-security (eventOf addressed) brought))
     now
 
-play-bytes : (order : Order) (bus : Bus) (array security : List ℕ) → Brings order → HoldsBytes bus array security
-    → LineBytes (play order (bus .count) (bus .chips) array security)
+play-bytes : (addressed : Addressed) (bus : Bus) (array security : List ℕ) → Brings addressed → HoldsBytes bus array security
+    → LineBytes (play addressed (bus .count) (bus .chips) array security)
 unfolding play
-play-bytes order bus array security brought now =
-    up-keeps (turnAt order (placesOf (bus .chips))) LineBytes (turn-bytes order (placesOf (bus .chips)) brought) (placed (bus .count))
+play-bytes addressed bus array security brought now =
+    up-keeps (chipTakes addressed (placesOf (bus .chips))) LineBytes (takes-bytes addressed (placesOf (bus .chips)) brought) (placed (bus .count))
     (record { chips = bus .chips; said = Nothing }, array, security)
     (now .in-chips, tt, now .in-array, now .in-security)
 
@@ -128,8 +128,8 @@ module _ (bus : Bus) (array security : List ℕ) (word : ℕ) (now : HoldsBytes 
   ends-in-bytes : (verdict : Verdict) → EndsInBytes (stepBy verdict bus array security word)
   unfolding played
   ends-in-bytes Passed =
-      done-bytes (eventOf (orderOf word)) (bus .count) (play (orderOf word) (bus .count) (bus .chips) array security)
-      (play-bytes (orderOf word) bus array security (brings-a-byte word) now)
+      done-bytes (eventOf (addressedOf word)) (bus .count) (play (addressedOf word) (bus .count) (bus .chips) array security)
+      (play-bytes (addressedOf word) bus array security (brings-a-byte word) now)
   ends-in-bytes (Refused refusal) = (now, tt)
 
   pub every-step-keeps-bytes : let next = step bus array security word in HoldsBytes (next .0 .bus) (next .1) (next .2)

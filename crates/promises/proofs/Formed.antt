@@ -70,14 +70,14 @@ module _ (bus : Bus) (array security : List ℕ) where
   abbrev places : List Place
   places = placesOf (bus .chips)
 
-  abbrev pub Ready : Type 0
-  Ready =
+  abbrev pub EntryHolds : Type 0
+  EntryHolds =
       (wellFormed (bus .count) (bus .chips) ≡ true)
       × (length array ≡ arrayStart places (placed (bus .count)))
       × (length security ≡ securityStart places (placed (bus .count)))
 
-  pub ready-of : firstOf (entryChecks bus array security) ≡ Passed → Ready
-  ready-of enters = let e = entered bus array security enters in (e .formed, e .array-fits, e .security-fits)
+  pub entry-of : firstOf (entryChecks bus array security) ≡ Passed → EntryHolds
+  entry-of enters = let e = entered bus array security enters in (e .formed, e .array-fits, e .security-fits)
 
-  pub of-ready : Ready → firstOf (entryChecks bus array security) ≡ Passed
-  of-ready ready = rw (ready .0, eq-eqb _ _ (ready .1), eq-eqb _ _ (ready .2))
+  pub of-entry : EntryHolds → firstOf (entryChecks bus array security) ≡ Passed
+  of-entry entry = rw (entry .0, eq-eqb _ _ (entry .1), eq-eqb _ _ (entry .2))

@@ -8,7 +8,7 @@ use mathlib.Core.List.{List}
 use mathlib.Core.Path.{_≡_, _∙_, refl, sym, ap, subst}
 use lib.Dec.{eqb}
 use lib.ListN.{length, set, replicate}
-use Rattle.base.proofs.test.Laws.{either}
+use Rattle.base.proofs.logic.Laws.{either}
 use Rattle.base.proofs.Fold.{up-same, any-pair-none}
 use Rattle.base.proofs.Every.{every-of}
 use Rattle.chip.specs.declared.Chip.{Chip}
@@ -28,9 +28,9 @@ use Rattle.board.specs.Place.{nowhere, placed}
 use Rattle.board.specs.Board.{sharedAddress, boardChecks, boardVerdict}
 use Rattle.board.specs.Shares.{arrayStart, securityStart}
 use Rattle.board.proofs.Laws.{placed-most}
-use Rattle.order.specs.declared.Order.{Order}
-use Rattle.order.specs.declared.Order.the-variants.{ToAll, ToOne}
-use Rattle.order.specs.Order.{kindOf, orderOf, reaches, eventOf}
+use Rattle.decode.specs.declared.Addressed.{Addressed}
+use Rattle.decode.specs.declared.Addressed.the-variants.{ToAll, ToOne}
+use Rattle.decode.specs.Decode.{kindOf, addressedOf, reaches, eventOf}
 use Rattle.lineup.proofs.Laws.{place-at}
 use Rattle.lineup.specs.Chips.{noChip, chipAt, controlAt, placeOf, placesOf}
 use Rattle.lineup.specs.Wellformed.{wellFormed}
@@ -43,16 +43,16 @@ use Rattle.promises.specs.Own.{own}
 use Rattle.promises.specs.Playing.{Made}
 use Rattle.promises.proofs.Bytes.{Brings, brings-a-byte}
 use Rattle.promises.proofs.Chips.{each-chip-takes-its-own, the-rest-stays, stores-keep-their-length, chips-stay-four}
-use Rattle.promises.proofs.Formed.{none-holds, Formed, formed-of, of-formed, Ready, ready-of, of-ready}
+use Rattle.promises.proofs.Formed.{none-holds, Formed, formed-of, of-formed, EntryHolds, entry-of, of-entry}
 
 -- an event that names one chip is of a kind that moves it into no chip's way
-abbrev Fair : Order → Type 0
+abbrev Fair : Addressed → Type 0
 Fair (ToAll e) = Unit {0}
 Fair (ToOne k e) = isNamed e ≡ true
 
-order-fair : (word : ℕ) → Fair (orderOf word)
-unfolding orderOf
-order-fair word =
+addressed-fair : (word : ℕ) → Fair (addressedOf word)
+unfolding addressedOf
+addressed-fair word =
     either Fair (eqb (kindOf word) 1) _ _ tt
     (either Fair (eqb (kindOf word) 2) _ _ tt
     (either Fair (eqb (kindOf word) 3) _ _ tt
@@ -61,30 +61,30 @@ order-fair word =
     (either Fair (eqb (kindOf word) 6) _ _ refl
     (either Fair (eqb (kindOf word) 7) _ _ refl tt))))))
 
-module _ (order : Order) (count : ℕ) (chips : List Chip) (array security : List ℕ) (four : length chips ≡ 4) (array-fits : length array ≡ arrayStart (placesOf chips) (placed count)) (security-fits : length security ≡ securityStart (placesOf chips) (placed count)) where
+module _ (addressed : Addressed) (count : ℕ) (chips : List Chip) (array security : List ℕ) (four : length chips ≡ 4) (array-fits : length array ≡ arrayStart (placesOf chips) (placed count)) (security-fits : length security ≡ securityStart (placesOf chips) (placed count)) where
   abbrev world : Played × List ℕ × List ℕ
-  world = play order count chips array security
+  world = play addressed count chips array security
 
   abbrev after : List Chip
   after = world .0 .chips
 
-  abbrev mine : Order → ℕ → Chip
+  abbrev mine : Addressed → ℕ → Chip
   mine o i = own o chips array security i .0 .chip
 
-  takes : (i : ℕ) → i < placed count → chipAt after i ≡ mine order i
-  takes i below = each-chip-takes-its-own order count chips array security four array-fits security-fits i below .0
+  takes : (i : ℕ) → i < placed count → chipAt after i ≡ mine addressed i
+  takes i below = each-chip-takes-its-own addressed count chips array security four array-fits security-fits i below .0
 
   -- no chip changes its part or its strap, and those past the count stay
-  own-place : (i : ℕ) → placeOf (mine order i .control) ≡ placeOf (controlAt chips i)
+  own-place : (i : ℕ) → placeOf (mine addressed i .control) ≡ placeOf (controlAt chips i)
   own-place i =
-      either (λ (x : Stepped × List ℕ × List ℕ). placeOf (x .0 .chip .control) ≡ placeOf (controlAt chips i)) (reaches order i) _ _
-      (rw (part-kept (chipAt chips i) _ _ (eventOf order), strap-kept (chipAt chips i) _ _ (eventOf order)))
+      either (λ (x : Stepped × List ℕ × List ℕ). placeOf (x .0 .chip .control) ≡ placeOf (controlAt chips i)) (reaches addressed i) _ _
+      (rw (part-kept (chipAt chips i) _ _ (eventOf addressed), strap-kept (chipAt chips i) _ _ (eventOf addressed)))
       refl
 
   place-kept : (i : ℕ) → Dec (i < placed count) → placeOf (controlAt after i) ≡ placeOf (controlAt chips i)
   place-kept i (yes p) = ap (λ (c : Chip). placeOf (c .control)) (takes i p) ∙ own-place i
   place-kept i (no p) =
-      ap (λ (c : Chip). placeOf (c .control)) (the-rest-stays order count chips array security four array-fits security-fits i (omega arith))
+      ap (λ (c : Chip). placeOf (c .control)) (the-rest-stays addressed count chips array security four array-fits security-fits i (omega arith))
 
   pub places-stay : placesOf after ≡ placesOf chips
   unfolding placesOf
@@ -99,10 +99,10 @@ module _ (order : Order) (count : ℕ) (chips : List Chip) (array security : Lis
       test
 
   module _ (formed : Formed count chips) where
-    fit-now : (i : ℕ) → i < placed count → alone.wellFormed (mine order i) ≡ true
+    fit-now : (i : ℕ) → i < placed count → alone.wellFormed (mine addressed i) ≡ true
     fit-now i below =
-        either (λ (x : Stepped × List ℕ × List ℕ). alone.wellFormed (x .0 .chip) ≡ true) (reaches order i) _ _
-        (kept (chipAt chips i) _ _ (eventOf order) (formed .fit i below))
+        either (λ (x : Stepped × List ℕ × List ℕ). alone.wellFormed (x .0 .chip) ≡ true) (reaches addressed i) _ _
+        (kept (chipAt chips i) _ _ (eventOf addressed) (formed .fit i below))
         (formed .fit i below)
 
     -- the last of set-up's checks
@@ -113,7 +113,7 @@ module _ (order : Order) (count : ℕ) (chips : List Chip) (array security : Lis
         (none-holds (boardChecks count (placesOf chips)) (formed .set-up) .1 .1 .1 .0)
 
     -- an event to all moves both chips at once; one that names a chip moves them one after the other
-    apart-now : (o : Order) → Fair o → (i j : ℕ) → i < placed count → j < i → sideBySide (mine o i .control) (mine o j .control) ≡ true
+    apart-now : (o : Addressed) → Fair o → (i j : ℕ) → i < placed count → j < i → sideBySide (mine o i .control) (mine o j .control) ≡ true
     apart-now (ToAll e) fair i j below before =
         side-by-side-kept (chipAt chips i) (chipAt chips j) _ _ _ _ e (formed .fit i below) (formed .fit j (omega arith))
         (rw (place-at chips i (omega (arith, placed-most count)), place-at chips j (omega (arith, placed-most count))) at (unshared i j below before))
@@ -124,30 +124,30 @@ module _ (order : Order) (count : ℕ) (chips : List Chip) (array security : Lis
         (one-kept k e fair j c
         (beside-sym (c .control) (controlAt chips j) (one-kept k e fair i (chipAt chips j) (formed .apart i j below before))))
 
-    formed-kept : Fair order → Formed count after
+    formed-kept : Fair addressed → Formed count after
     formed-kept fair =
         record {
           set-up = rw places-stay (formed .set-up);
           fit = λ i below. rw (takes i below) (fit-now i below);
-          apart = λ i j below before. rw (controlAt, takes i below, takes j (omega arith)) (apart-now order fair i j below before);
+          apart = λ i j below before. rw (controlAt, takes i below, takes j (omega arith)) (apart-now addressed fair i j below before);
         }
 
-    ready-kept : Fair order → Ready (record { count = count; chips = after }) (world .1) (world .2)
-    ready-kept fair =
-        let (array-long, security-long) = stores-keep-their-length order count chips array security four array-fits security-fits in
+    entry-holds-still : Fair addressed → EntryHolds (record { count = count; chips = after }) (world .1) (world .2)
+    entry-holds-still fair =
+        let (array-long, security-long) = stores-keep-their-length addressed count chips array security four array-fits security-fits in
         (of-formed count after (formed-kept fair), rw places-stay (array-long ∙ array-fits), rw places-stay (security-long ∙ security-fits))
 
     -- and a value of its type, where it was one
-    typed-now : Brings order → ((i : ℕ) → i < 4 → ChipTyped (chipAt chips i)) → (i : ℕ) → i < 4 → ChipTyped (chipAt after i)
+    typed-now : Brings addressed → ((i : ℕ) → i < 4 → ChipTyped (chipAt chips i)) → (i : ℕ) → i < 4 → ChipTyped (chipAt after i)
     typed-now brought typed i below = go (decLt i (placed count))
       where
         go : Dec (i < placed count) → ChipTyped (chipAt after i)
         go (yes p) =
             subst ChipTyped (sym (takes i p))
-            (either (λ (x : Stepped × List ℕ × List ℕ). ChipTyped (x .0 .chip)) (reaches order i) _ _
-            (chip-typed-kept (chipAt chips i) _ _ (eventOf order) brought (formed .fit i p) (typed i below))
+            (either (λ (x : Stepped × List ℕ × List ℕ). ChipTyped (x .0 .chip)) (reaches addressed i) _ _
+            (chip-typed-kept (chipAt chips i) _ _ (eventOf addressed) brought (formed .fit i p) (typed i below))
             (typed i below))
-        go (no p) = subst ChipTyped (sym (the-rest-stays order count chips array security four array-fits security-fits i (omega arith))) (typed i below)
+        go (no p) = subst ChipTyped (sym (the-rest-stays addressed count chips array security four array-fits security-fits i (omega arith))) (typed i below)
 
 -- what an event leaves: a bus that passes the checks at entry, of its type, with the same places and as many chips
 pub record Kept (bus : Bus) (next : Made) : Type 0 where
@@ -163,19 +163,19 @@ event-keeps bus array security word typed passed = go (firstOf (eventChecks bus 
   where
     go : (verdict : Verdict) → Kept bus (stepBy verdict bus array security word)
     go Passed =
-        let (formed, array-fits, security-fits) = ready-of bus array security passed in
-        let order = orderOf word in
-        let next = played order bus array security in
+        let (formed, array-fits, security-fits) = entry-of bus array security passed in
+        let addressed = addressedOf word in
+        let next = played addressed bus array security in
         let four = has-four typed in
         let clauses = formed-of (bus .count) (bus .chips) formed in
-        let ready = ready-kept order (bus .count) (bus .chips) array security four array-fits security-fits clauses (order-fair word) in
-        let stays-four = chips-stay-four order (bus .count) (bus .chips) array security four array-fits security-fits in
-        let each = typed-now order (bus .count) (bus .chips) array security four array-fits security-fits clauses (brings-a-byte word) (chip-typed typed) in
+        let ready = entry-holds-still addressed (bus .count) (bus .chips) array security four array-fits security-fits clauses (addressed-fair word) in
+        let stays-four = chips-stay-four addressed (bus .count) (bus .chips) array security four array-fits security-fits in
+        let each = typed-now addressed (bus .count) (bus .chips) array security four array-fits security-fits clauses (brings-a-byte word) (chip-typed typed) in
         record {
-          enters = of-ready (next .0 .bus) (next .1) (next .2) ready;
+          enters = of-entry (next .0 .bus) (next .1) (next .2) ready;
           typed = bus-typed (bus .count) (next .0 .bus .chips) (count-fits typed) stays-four
               (every-of ChipTyped (next .0 .bus .chips) noChip (λ i below. each i (omega (arith, below, stays-four))));
-          places = places-stay order (bus .count) (bus .chips) array security four array-fits security-fits;
+          places = places-stay addressed (bus .count) (bus .chips) array security four array-fits security-fits;
           count = refl;
         }
     go (Refused refusal) = record { enters = passed; typed = typed; places = refl; count = refl }

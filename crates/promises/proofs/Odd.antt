@@ -10,7 +10,7 @@ use Rattle.load.specs.Load as load
 use Rattle.control.specs.declared.Control.{Control}
 use Rattle.control.specs.declared.phase.Phase.the-variants.{AwaitsAddress, AwaitsChoice, TakesData}
 use Rattle.control.specs.declared.phase.Data.the-variants.{ToArray, ToLock}
-use Rattle.control.specs.Control.{fresh, inPhase, choosing, lockedNow}
+use Rattle.control.specs.Control.{fresh, inPhase, choosing, idlockedNow}
 use Rattle.addressing.specs.declared.Call.{Call}
 use Rattle.addressing.specs.declared.Call.the-variants.{ReadArray, WriteArray, ReadRegister, WriteRegister, HostF8, HostF9, Nobody}
 use Rattle.addressing.specs.Address.{callOf, takeChosen, takeChoice}
@@ -40,7 +40,7 @@ odd =
     -- chosen, and awaiting the byte after F8h
     ∷ line (λ c. inPhase AwaitsChoice (choosing true c)) same
     -- taking lock data on a locked page
-    ∷ line (λ c. inPhase (TakesData (ToLock true)) (lockedNow c)) same
+    ∷ line (λ c. inPhase (TakesData (ToLock true)) (idlockedNow c)) same
     ∷ []
 
 pub odd-ones-are-well-formed : map (wellFormed 2) odd ≡ true ∷ true ∷ true ∷ true ∷ []

@@ -14,7 +14,7 @@ use Rattle.board.specs.declared.Place.{Place}
 use Rattle.bus.specs.declared.Bus.{Bus}
 use Rattle.bus.specs.Setup.{setUpChecks, empty, setUpBy, setUp}
 use Rattle.bus.specs.Step.{stepChecks, refused, played, stepBy, step}
-use Rattle.bus.specs.Run.{runChecks, Tape, runBy, run}
+use Rattle.bus.specs.Run.{runChecks, Progress, runBy, run}
 
 abbrev isDone : Answer → Bool
 isDone (answer.Done reply) = true
@@ -48,6 +48,6 @@ module _ (bus : Bus) (array security : List ℕ) where
   unfolding run
   refused-run-leaves-all events answers refusal = go (firstOf (runChecks bus array security events answers)) (bus, array, security, answers)
     where
-      go : (verdict : Verdict) (tape : Tape) → runBy verdict events tape .0 ≡ Refused refusal → runBy verdict events tape ≡ (Refused refusal, tape)
-      go Passed tape is = absurd (true≢false (ap isPassed is))
-      go (Refused other) tape is = ap (λ (verdict : Verdict). (verdict, tape)) is
+      go : (verdict : Verdict) (progress : Progress) → runBy verdict events progress .0 ≡ Refused refusal → runBy verdict events progress ≡ (Refused refusal, progress)
+      go Passed progress is = absurd (true≢false (ap isPassed is))
+      go (Refused other) progress is = ap (λ (verdict : Verdict). (verdict, progress)) is

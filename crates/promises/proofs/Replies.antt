@@ -19,7 +19,7 @@ use Rattle.chip.specs.declared.Stepped.{Stepped}
 use Rattle.chip.specs.declared.event.Event.the-variants.{Sent, Read}
 use Rattle.wellformed.specs.Beside.{sideBySide, isActive, notBothActive}
 use Rattle.board.specs.Place.{placed}
-use Rattle.order.specs.declared.Order.the-variants.{ToAll}
+use Rattle.decode.specs.declared.Addressed.the-variants.{ToAll}
 use Rattle.lineup.specs.Chips.{chipAt, controlAt}
 use Rattle.lineup.specs.Wellformed.{wellFormed}
 use Rattle.line.specs.Line.{heard, lineReply}

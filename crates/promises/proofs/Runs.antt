@@ -18,15 +18,15 @@ use Rattle.refusal.specs.Checks.{firstOf, isPassed}
 use Rattle.refusal.proofs.Checks.{passed-first}
 use Rattle.bus.specs.declared.Bus.{Bus}
 use Rattle.bus.specs.Step.{entryChecks, eventChecks, stepBy, event, step}
-use Rattle.bus.specs.Run.{runChecks, Tape, noted, eventAt, runUpTo, runBy, run}
+use Rattle.bus.specs.Run.{runChecks, Progress, noted, runEvent, runUpTo, runBy, run}
 use Rattle.bus.proofs.Typed.{OfItsType}
 use Rattle.promises.specs.Playing.{World, after, answersTo}
 use Rattle.promises.proofs.Kept.{Kept, event-keeps}
 use Rattle.promises.proofs.Playing.{after-append, answers-append, answers-length}
 
 -- event i as a step by itself
-abbrev stepAt : List ℕ → ℕ → Tape → Tape
-stepAt events i tape = noted i (tape .3) (step (tape .0) (tape .1) (tape .2) (getD events i 0))
+abbrev stepAt : List ℕ → ℕ → Progress → Progress
+stepAt events i progress = noted i (progress .3) (step (progress .0) (progress .1) (progress .2) (getD events i 0))
 
 -- where the checks at entry pass, only those of the event are left
 pub step-is-event : (bus : Bus) (array security : List ℕ) (word : ℕ) → firstOf (entryChecks bus array security) ≡ Passed
@@ -40,38 +40,38 @@ pub step-keeps : (bus : Bus) (array security : List ℕ) (word : ℕ) → OfItsT
 step-keeps bus array security word typed passed = rw (step-is-event bus array security word passed) (event-keeps bus array security word typed passed)
 
 -- the bus and both stores pass the checks at entry, and the bus is of its type
-abbrev Sound : Tape → Type 0
-Sound tape = (firstOf (entryChecks (tape .0) (tape .1) (tape .2)) ≡ Passed) × OfItsType (tape .0)
+abbrev Sound : Progress → Type 0
+Sound progress = (firstOf (entryChecks (progress .0) (progress .1) (progress .2)) ≡ Passed) × OfItsType (progress .0)
 
-sound-kept : (events : List ℕ) (i : ℕ) (tape : Tape) → Sound tape → Sound (eventAt events i tape)
-sound-kept events i tape (passed, typed) =
-    let kept = event-keeps (tape .0) (tape .1) (tape .2) (getD events i 0) typed passed in
+sound-kept : (events : List ℕ) (i : ℕ) (progress : Progress) → Sound progress → Sound (runEvent events i progress)
+sound-kept events i progress (passed, typed) =
+    let kept = event-keeps (progress .0) (progress .1) (progress .2) (getD events i 0) typed passed in
     (kept .enters, kept .typed)
 
-events-are-steps : (events : List ℕ) (n : ℕ) (tape : Tape) → Sound tape → upTo (eventAt events) n tape ≡ upTo (stepAt events) n tape
+events-are-steps : (events : List ℕ) (n : ℕ) (progress : Progress) → Sound progress → upTo (runEvent events) n progress ≡ upTo (stepAt events) n progress
 unfolding upTo
-events-are-steps events zero tape sound = refl
-events-are-steps events (suc n) tape sound =
-    let now = upTo (eventAt events) n tape in
-    let (passed, typed) = up-keeps (eventAt events) Sound (sound-kept events) n tape sound in
+events-are-steps events zero progress sound = refl
+events-are-steps events (suc n) progress sound =
+    let now = upTo (runEvent events) n progress in
+    let (passed, typed) = up-keeps (runEvent events) Sound (sound-kept events) n progress sound in
     ap (noted n (now .3)) (sym (step-is-event (now .0) (now .1) (now .2) (getD events n 0) passed))
-    ∙ ap (stepAt events n) (events-are-steps events n tape sound)
+    ∙ ap (stepAt events n) (events-are-steps events n progress sound)
 
 module _ (bus : Bus) (array security events answers : List ℕ) where
-  abbrev start : Tape
+  abbrev start : Progress
   start = (bus, array, security, answers)
 
   abbrev world : World
   world = (bus, array, security)
 
-  abbrev ran : Verdict × Tape
+  abbrev ran : Verdict × Progress
   ran = run bus array security events answers
 
   -- a run that passes has passed the checks at entry, has room for the answers, and has played each event
   pub record PassedRun : Type 0 where
     pub enters : firstOf (entryChecks bus array security) ≡ Passed
     pub room : length events ≤ length answers
-    pub plays : ran ≡ (Passed, upTo (eventAt events) (length events) start)
+    pub plays : ran ≡ (Passed, upTo (runEvent events) (length events) start)
 
   pub passed-run : run bus array security events answers .0 ≡ Passed → PassedRun
   unfolding run runUpTo
@@ -88,7 +88,7 @@ module _ (bus : Bus) (array security events answers : List ℕ) where
       first Passed passed = refl
       first (Refused refusal) passed = absurd (false≢true (ap isPassed passed))
 
-      go : (verdict : Verdict) → runBy verdict events start .0 ≡ Passed → runBy verdict events start ≡ (Passed, upTo (eventAt events) (length events) start)
+      go : (verdict : Verdict) → runBy verdict events start .0 ≡ Passed → runBy verdict events start ≡ (Passed, upTo (runEvent events) (length events) start)
       go Passed passed = refl
       go (Refused refusal) passed = absurd (false≢true (ap isPassed passed))
 
@@ -97,10 +97,10 @@ module _ (bus : Bus) (array security events answers : List ℕ) where
   run-passes enters room = rw (le-ltb (length answers) (length events) room, enters)
 
   -- where a list has led to, with its answers first in the buffer
-  abbrev tapeAfter : List ℕ → List ℕ → Tape
-  tapeAfter played rest = let now = after step world played in (now .0, now .1, now .2, answersTo step world played ++ rest)
+  abbrev progressAfter : List ℕ → List ℕ → Progress
+  progressAfter played rest = let now = after step world played in (now .0, now .1, now .2, answersTo step world played ++ rest)
 
-  steps-play : (n : ℕ) → n ≤ length events → n ≤ length answers → upTo (stepAt events) n start ≡ tapeAfter (take n events) (drop n answers)
+  steps-play : (n : ℕ) → n ≤ length events → n ≤ length answers → upTo (stepAt events) n start ≡ progressAfter (take n events) (drop n answers)
   unfolding upTo after answersTo
   steps-play zero some fits = refl
   steps-play (suc n) some fits =
@@ -125,30 +125,30 @@ module _ (bus : Bus) (array security events answers : List ℕ) where
   run-is-its-steps typed is =
       let passed = passed-run is in
       passed .plays
-      ∙ ap (λ (tape : Tape). (Passed, tape))
+      ∙ ap (λ (progress : Progress). (Passed, progress))
       (events-are-steps events (length events) start (passed .enters, typed) ∙ steps-play (length events) (omega arith) (passed .room))
-      ∙ ap (λ (played : List ℕ). (Passed, tapeAfter played (drop (length events) answers))) (take-length events)
+      ∙ ap (λ (played : List ℕ). (Passed, progressAfter played (drop (length events) answers))) (take-length events)
 
   -- refused or not
-  run-keeps : (P : Tape → Type 0) → ((i : ℕ) (tape : Tape) → i < length events → P tape → P (eventAt events i tape)) → P start → P (ran .1)
+  run-keeps : (P : Progress → Type 0) → ((i : ℕ) (progress : Progress) → i < length events → P progress → P (runEvent events i progress)) → P start → P (ran .1)
   unfolding run runUpTo
-  run-keeps P turn first = go (firstOf (runChecks bus array security events answers))
+  run-keeps P each first = go (firstOf (runChecks bus array security events answers))
     where
       go : (verdict : Verdict) → P (runBy verdict events start .1)
-      go Passed = up-keeps-below (eventAt events) P (length events) turn start first
+      go Passed = up-keeps-below (runEvent events) P (length events) each start first
       go (Refused refusal) = first
 
   pub answers-past-the-list-stay : (i d : ℕ) → length events ≤ i → getD (run bus array security events answers .1 .3) i d ≡ getD answers i d
   answers-past-the-list-stay i d past =
-      run-keeps (λ (tape : Tape). getD (tape .3) i d ≡ getD answers i d)
-      (λ k tape below same. getD-set-other (tape .3) k i _ d (λ (is : i ≡ k). absurd (omega arith)) ∙ same)
+      run-keeps (λ (progress : Progress). getD (progress .3) i d ≡ getD answers i d)
+      (λ k progress below same. getD-set-other (progress .3) k i _ d (λ (is : i ≡ k). absurd (omega arith)) ∙ same)
       refl
 
   pub answers-keep-their-length : length (run bus array security events answers .1 .3) ≡ length answers
   answers-keep-their-length =
-      run-keeps (λ (tape : Tape). length (tape .3) ≡ length answers) (λ k tape below same. length-set (tape .3) k _ ∙ same) refl
+      run-keeps (λ (progress : Progress). length (progress .3) ≡ length answers) (λ k progress below same. length-set (progress .3) k _ ∙ same) refl
 
   pub run-keeps-the-bus-well-formed : OfItsType bus → run bus array security events answers .0 ≡ Passed
-      → let tape = run bus array security events answers .1 in (firstOf (entryChecks (tape .0) (tape .1) (tape .2)) ≡ Passed) × OfItsType (tape .0)
+      → let progress = run bus array security events answers .1 in (firstOf (entryChecks (progress .0) (progress .1) (progress .2)) ≡ Passed) × OfItsType (progress .0)
   run-keeps-the-bus-well-formed typed is =
-      run-keeps Sound (λ i tape below. sound-kept events i tape) (passed-run is .enters, typed)
+      run-keeps Sound (λ i progress below. sound-kept events i progress) (passed-run is .enters, typed)

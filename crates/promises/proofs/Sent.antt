@@ -4,7 +4,7 @@ use Prim.Native.Nat.{ℕ}
 use mathlib.Core.Bool.{Bool, true, false, _&&_}
 use mathlib.Core.List.{List}
 use mathlib.Core.Path.{_≡_, refl}
-use Rattle.base.proofs.test.Laws.{either}
+use Rattle.base.proofs.logic.Laws.{either}
 use Rattle.parts.specs.Part.{geometryOf}
 use Rattle.control.specs.declared.Control.{Control}
 use Rattle.control.specs.declared.Answered.{Answered}
@@ -19,9 +19,9 @@ use Rattle.control.specs.declared.phase.Data.the-variants.{ToArray, ToSecurity,
 use Rattle.addressing.specs.declared.Call.{Call}
 use Rattle.addressing.specs.declared.Call.the-variants.{ReadArray, WriteArray, ReadRegister, WriteRegister, HostF8, HostF9, Nobody}
 use Rattle.addressing.specs.Address.{callOf, takeCall, takeAddress, takeChosen, takeChoice}
-use Rattle.words.specs.declared.Register.{Register}
-use Rattle.words.specs.declared.Register.the-variants.{Security, Configuration, Lock, Nowhere}
-use Rattle.words.specs.Word.{registerOf, isLock, takeNamed, takeWord}
+use Rattle.wordaddress.specs.declared.Register.{Register}
+use Rattle.wordaddress.specs.declared.Register.the-variants.{Security, Configuration, Lock, Nowhere}
+use Rattle.wordaddress.specs.WordAddress.{registerOf, isLock, takeNamed, takeWord}
 use Rattle.taking.specs.Taking.{takeData, takeIn, take}
 use Rattle.chip.specs.declared.Chip.{Chip}
 use Rattle.chip.specs.declared.event.Event.the-variants.{Sent}
@@ -57,20 +57,20 @@ module _ (c : Control) (byte : ℕ) where
   to-named : (first : ℕ) (register : Register) → NoByte (takeNamed register first c byte)
   to-named first Security = refl
   to-named first Configuration = refl
-  to-named first Lock = either NoByte (c .locked) _ _ refl refl
+  to-named first Lock = either NoByte (c .idlocked) _ _ refl refl
   to-named first Nowhere = refl
 
   to-word : (word : Word) → NoByte (takeWord word c byte)
   to-word (ArrayFirst a16) = refl
   to-word (ArraySecond a16 first) = refl
-  to-word RegisterFirst = either NoByte (c .locked && isLock (registerOf byte)) _ _ refl refl
+  to-word RegisterFirst = either NoByte (c .idlocked && isLock (registerOf byte)) _ _ refl refl
   to-word (RegisterSecond first) = to-named first (registerOf first)
 
   to-data : (kind : Data) → NoByte (takeData kind c byte)
   to-data ToArray = refl
   to-data ToSecurity = refl
   to-data (ToConfiguration came) = refl
-  to-data (ToLock some) = either NoByte (c .locked) _ _ refl refl
+  to-data (ToLock some) = either NoByte (c .idlocked) _ _ refl refl
   to-data ToNowhere = refl
 
   to-byte : (phase : Phase) → NoByte (takeIn phase c byte)

@@ -31,7 +31,7 @@ use Rattle.lineup.specs.Wellformed.{wellFormed}
 use Rattle.bus.specs.Setup.{setUpChecks, emptyChip, empty, freshChips, freshBus, setUpBy, setUp}
 use Rattle.bus.specs.Step.{entryChecks}
 use Rattle.lineup.proofs.Filled.{filled-at}
-use Rattle.promises.proofs.Formed.{none-holds, Formed, of-formed, right-lengths, Ready, of-ready}
+use Rattle.promises.proofs.Formed.{none-holds, Formed, of-formed, right-lengths, EntryHolds, of-entry}
 
 -- two boards whose places agree as far as the count goes
 any-same : (test test′ : ℕ → Bool) (n : ℕ) → ((i : ℕ) → i < n → test i ≡ test′ i) → anyBelow test n ≡ anyBelow test′ n
@@ -83,8 +83,8 @@ module _ (count : ℕ) (board : List Place) (array security : List ℕ) (passed 
         apart = λ i j below before. rw (controlAt, fresh-at i below, fresh-at j (omega arith));
       }
 
-  fresh-ready : Ready (freshBus count board) array security
-  fresh-ready =
+  fresh-entry : EntryHolds (freshBus count board) array security
+  fresh-entry =
       let (array-fits, security-fits) = right-lengths count board (length array) (length security) (none .1 .1 .1 .1 .0) in
       let starts = starts-same count (placesOf line) board place-same in
       (of-formed count line fresh-formed, array-fits ∙ sym (starts (λ g. g .array)), security-fits ∙ sym (starts (λ g. g .security)))
@@ -96,7 +96,7 @@ set-up-is-well-formed count board array security passed = go (firstOf (setUpChec
   where
     go : (verdict : Verdict) → firstOf (setUpChecks count board array security) ≡ verdict → setUpBy verdict count board .verdict ≡ Passed
         → firstOf (entryChecks (setUpBy verdict count board .bus) array security) ≡ Passed
-    go Passed is now = of-ready (freshBus count board) array security (fresh-ready count board array security is)
+    go Passed is now = of-entry (freshBus count board) array security (fresh-entry count board array security is)
     go (Refused refusal) is now = absurd (false≢true (ap isPassed now))
 
 pub empty-is-not-well-formed : wellFormed (empty .count) (empty .chips) ≡ false

@@ -8,8 +8,8 @@ use Rattle.refusal.specs.declared.Verdict.{Verdict}
 use Rattle.refusal.specs.declared.Verdict.the-variants.{Passed}
 use Rattle.refusal.specs.declared.Answer.the-variants as answer
 use Rattle.refusal.specs.Checks.{firstOf}
-use Rattle.order.specs.declared.Order.{Order}
-use Rattle.order.specs.Order.{orderOf, eventOf}
+use Rattle.decode.specs.declared.Addressed.{Addressed}
+use Rattle.decode.specs.Decode.{addressedOf, eventOf}
 use Rattle.lineup.specs.Chips.{chipAt, placesOf}
 use Rattle.line.specs.Line.{arrayShare, securityShare, lineReply}
 use Rattle.bus.specs.declared.Bus.{Bus}
@@ -22,8 +22,8 @@ use Rattle.promises.proofs.Chips.{each-chip-takes-its-own, the-rest-sta
 use Rattle.promises.proofs.Formed.{none-holds}
 
 module _ (bus : Bus) (array security : List ℕ) (word : ℕ) (typed : OfItsType bus) (passes : firstOf (stepChecks bus array security word) ≡ Passed) where
-  abbrev order : Order
-  order = orderOf word
+  abbrev addressed : Addressed
+  addressed = addressedOf word
 
   abbrev after : Stepped × List ℕ × List ℕ
   after = step bus array security word
@@ -33,28 +33,28 @@ module _ (bus : Bus) (array security : List ℕ) (word : ℕ) (typed : OfItsType
       let none = none-holds (stepChecks bus array security word) passes in
       entered bus array security (rw (none .0, none .1 .0))
 
-  plays : after ≡ played order bus array security
+  plays : after ≡ played addressed bus array security
   unfolding step
   plays = ap (λ (verdict : Verdict). stepBy verdict bus array security word) passes
 
   pub step-is-each-chips-own : (i : ℕ) → i < bus .count
-      → (chipAt (after .0 .bus .chips) i ≡ own order (bus .chips) array security i .0 .chip)
-      × (arrayShare (placesOf (bus .chips)) i (after .1) ≡ own order (bus .chips) array security i .1)
-      × (securityShare (placesOf (bus .chips)) i (after .2) ≡ own order (bus .chips) array security i .2)
+      → (chipAt (after .0 .bus .chips) i ≡ own addressed (bus .chips) array security i .0 .chip)
+      × (arrayShare (placesOf (bus .chips)) i (after .1) ≡ own addressed (bus .chips) array security i .1)
+      × (securityShare (placesOf (bus .chips)) i (after .2) ≡ own addressed (bus .chips) array security i .2)
   unfolding played
   step-is-each-chips-own i below =
       rw plays
-      (each-chip-takes-its-own order (bus .count) (bus .chips) array security (has-four typed) (enters .array-fits) (enters .security-fits) i (omega (arith, enters .all-placed)))
+      (each-chip-takes-its-own addressed (bus .count) (bus .chips) array security (has-four typed) (enters .array-fits) (enters .security-fits) i (omega (arith, enters .all-placed)))
 
   pub step-leaves-the-rest : (i : ℕ) → bus .count ≤ i → chipAt (after .0 .bus .chips) i ≡ chipAt (bus .chips) i
   unfolding played
   step-leaves-the-rest i past =
-      rw plays (the-rest-stays order (bus .count) (bus .chips) array security (has-four typed) (enters .array-fits) (enters .security-fits) i (omega (arith, enters .all-placed)))
+      rw plays (the-rest-stays addressed (bus .count) (bus .chips) array security (has-four typed) (enters .array-fits) (enters .security-fits) i (omega (arith, enters .all-placed)))
 
-  pub step-answers-for-all : after .0 .answer ≡ answer.Done (lineReply (eventOf order) (gathered order (bus .count) (bus .chips) array security))
+  pub step-answers-for-all : after .0 .answer ≡ answer.Done (lineReply (eventOf addressed) (gathered addressed (bus .count) (bus .chips) array security))
   unfolding played
   step-answers-for-all =
-      rw (plays, answer-is-gathered order (bus .count) (bus .chips) array security (has-four typed) (enters .array-fits) (enters .security-fits))
+      rw (plays, answer-is-gathered addressed (bus .count) (bus .chips) array security (has-four typed) (enters .array-fits) (enters .security-fits))
 
   pub step-keeps-the-count : after .0 .bus .count ≡ bus .count
   unfolding played

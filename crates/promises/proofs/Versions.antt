@@ -16,36 +16,36 @@ use Rattle.refusal.specs.declared.Verdict.the-variants.{Passed}
 use Rattle.refusal.specs.Checks.{firstOf}
 use Rattle.board.specs.declared.Place.{Place}
 use Rattle.board.specs.Place.{nowhere}
-use Rattle.order.specs.Order.{orderOf}
+use Rattle.decode.specs.Decode.{addressedOf}
 use Rattle.lineup.specs.Chips.{controlAt, placesOf}
 use Rattle.line.specs.Line.{play}
 use Rattle.bus.specs.declared.Bus.{Bus}
 use Rattle.bus.specs.Setup.{setUp}
 use Rattle.bus.specs.Step.{entryChecks, played, event}
-use Rattle.bus.specs.Run.{Tape, eventAt, runUpTo, run}
-use Rattle.promises.specs.Versions.{allAtOnce, ours, EventByEvent}
+use Rattle.bus.specs.Run.{Progress, runEvent, runUpTo, run}
+use Rattle.promises.specs.Versions.{allAtOnce, ourVersion, EventByEvent}
 use Rattle.promises.proofs.Setup.{set-up-is-well-formed}
 use Rattle.promises.proofs.Runs.{passed-run, run-passes}
 
-pub ours-goes-event-by-event : EventByEvent ours
+pub ours-goes-event-by-event : EventByEvent ourVersion
 unfolding runUpTo
 ours-goes-event-by-event bus array security events answers n passed within =
     let whole = passed-run bus array security events answers passed in
     let short : length (take n events) ≡ n = length-take-le n events within in
     let room : length (take n events) ≤ length answers = omega (arith, short, whole .room) in
     let part = passed-run bus array security (take n events) answers (run-passes bus array security (take n events) answers (whole .enters) room) in
-    up-end (eventAt (take n events)) _ (sym short)
-    (up-same (eventAt events) (eventAt (take n events)) n (λ i tape below. rw (getD-take n events i 0)) (bus, array, security, answers))
-    ∙ ap (λ (ran : Verdict × Tape). ran .1) (sym (part .plays))
+    up-end (runEvent (take n events)) _ (sym short)
+    (up-same (runEvent events) (runEvent (take n events)) n (λ i progress below. rw (getD-take n events i 0)) (bus, array, security, answers))
+    ∙ ap (λ (ran : Verdict × Progress). ran .1) (sym (part .plays))
 
-pub all-at-once-ends-alike : (events : List ℕ) (tape : Tape) → allAtOnce events (length events) tape ≡ runUpTo events (length events) tape
+pub all-at-once-ends-alike : (events : List ℕ) (progress : Progress) → allAtOnce events (length events) progress ≡ runUpTo events (length events) progress
 unfolding runUpTo upTo
-all-at-once-ends-alike [] tape = refl
-all-at-once-ends-alike (word ∷ more) tape =
+all-at-once-ends-alike [] progress = refl
+all-at-once-ends-alike (word ∷ more) progress =
     let events = word ∷ more in
-    let end : Tape = runUpTo events (length events) tape in
-    let behind : drop (length events) (end .3) ≡ drop (length events) (tape .3) =
-    up-keeps-below (eventAt events) (λ (now : Tape). drop (length events) (now .3) ≡ drop (length events) (tape .3)) (length events) (λ i now below same. drop-set-lt (length events) (now .3) i _ below ∙ same) tape refl in
+    let end : Progress = runUpTo events (length events) progress in
+    let behind : drop (length events) (end .3) ≡ drop (length events) (progress .3) =
+    up-keeps-below (runEvent events) (λ (now : Progress). drop (length events) (now .3) ≡ drop (length events) (progress .3)) (length events) (λ i now below same. drop-set-lt (length events) (now .3) i _ below ∙ same) progress refl in
     ap (λ (answers : List ℕ). (end .0, end .1, end .2, answers)) (rw (← behind) (take-append-drop (length events) (end .3)))
 
 -- a 24CS32 alone on the line, whose WP goes high and then low
@@ -74,12 +74,12 @@ enters = set-up-is-well-formed 1 board array security refl
 passes : run bus array security events answers .0 ≡ Passed
 passes = run-passes bus array security events answers enters (omega arith)
 
-abbrev wpOf : Tape → Bool
-wpOf tape = controlAt (tape .0 .chips) 0 .wp
+abbrev wpOf : Progress → Bool
+wpOf progress = controlAt (progress .0 .chips) 0 .wp
 
 -- after its first event WP is high, and at the end low
 pub all-at-once-is-shut-out : EventByEvent allAtOnce → ⊥
-unfolding setUp runUpTo upTo geometryOf event played play chip.step orderOf placesOf
+unfolding setUp runUpTo upTo geometryOf event played play chip.step addressedOf placesOf
 all-at-once-is-shut-out demand =
     let same = demand bus array security events answers 1 passes (omega arith) ∙ sym (ours-goes-event-by-event bus array security events answers 1 passes (omega arith)) in
     false≢true (ap wpOf same)

@@ -3,10 +3,10 @@ use Prim.Native.Nat.{ℕ, suc, _+_, _<_}
 use mathlib.Core.List.{List}
 use mathlib.Core.Path.{_≡_}
 use lib.ListN.{length, getD}
-use Rattle.bus.specs.Run.{Tape}
+use Rattle.bus.specs.Run.{Progress}
 
 -- the lists are `before` and `rest`, with the event between them and without it
-pub record ButForItsWord (before rest : List ℕ) (with without : Tape) : Type 0 where
+pub record ButForItsWord (before rest : List ℕ) (with without : Progress) : Type 0 where
   pub bus : with .0 ≡ without .0
   pub array : with .1 ≡ without .1
   pub security : with .2 ≡ without .2

@@ -9,19 +9,19 @@ use Rattle.chip.specs.declared.Chip.{Chip}
 use Rattle.chip.specs.declared.Stepped.{Stepped}
 use Rattle.chip.specs.Chip.{quiet, step}
 use Rattle.board.specs.Place.{placed}
-use Rattle.order.specs.declared.Order.{Order}
-use Rattle.order.specs.Order.{reaches, eventOf}
+use Rattle.decode.specs.declared.Addressed.{Addressed}
+use Rattle.decode.specs.Decode.{reaches, eventOf}
 use Rattle.lineup.specs.Chips.{chipAt, placesOf}
 use Rattle.line.specs.Line.{arrayShare, securityShare, heard}
 
 -- chip i with its own shares of the two stores as they are before the event: its step where the event reaches it, else it stays
-abbrev pub own : Order → List Chip → List ℕ → List ℕ → ℕ → Stepped × List ℕ × List ℕ
-own order chips array security i =
+abbrev pub own : Addressed → List Chip → List ℕ → List ℕ → ℕ → Stepped × List ℕ × List ℕ
+own addressed chips array security i =
     let a = arrayShare (placesOf chips) i array in
     let s = securityShare (placesOf chips) i security in
-    cond (reaches order i) (step (chipAt chips i) a s (eventOf order)) (quiet (chipAt chips i), a, s)
+    cond (reaches addressed i) (step (chipAt chips i) a s (eventOf addressed)) (quiet (chipAt chips i), a, s)
 
 -- what all have said, in chip order
-abbrev pub gathered : Order → ℕ → List Chip → List ℕ → List ℕ → Said
-gathered order count chips array security =
-    upTo (λ (i : ℕ) (said : Said). heard said (own order chips array security i .0 .said)) (placed count) Nothing
+abbrev pub gathered : Addressed → ℕ → List Chip → List ℕ → List ℕ → Said
+gathered addressed count chips array security =
+    upTo (λ (i : ℕ) (said : Said). heard said (own addressed chips array security i .0 .said)) (placed count) Nothing

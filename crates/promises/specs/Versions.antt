@@ -6,24 +6,24 @@ use mathlib.Core.Path.{_≡_}
 use lib.ListN.{length, take, drop}
 use Rattle.refusal.specs.declared.Verdict.the-variants.{Passed}
 use Rattle.bus.specs.declared.Bus.{Bus}
-use Rattle.bus.specs.Run.{Tape, runUpTo, run}
+use Rattle.bus.specs.Run.{Progress, runUpTo, run}
 
 -- how far a version has come after n events of a list
 abbrev pub Version : Type 0
-Version = List ℕ → ℕ → Tape → Tape
+Version = List ℕ → ℕ → Progress → Progress
 
--- the first n answers of a tape are handed out; behind them the buffer is as it was
-abbrev pub echoed : ℕ → List ℕ → Tape → Tape
-echoed n answers tape = (tape .0, tape .1, tape .2, take n (tape .3) ++ drop n answers)
+-- the first n answers of a progress are handed out; behind them the buffer is as it was
+abbrev pub echoed : ℕ → List ℕ → Progress → Progress
+echoed n answers progress = (progress .0, progress .1, progress .2, take n (progress .3) ++ drop n answers)
 
 -- from its first event on it has the state and both stores of the list's end
 abbrev pub allAtOnce : Version
-allAtOnce events zero tape = tape
-allAtOnce events (suc n) tape = echoed (suc n) (tape .3) (runUpTo events (length events) tape)
+allAtOnce events zero progress = progress
+allAtOnce events (suc n) progress = echoed (suc n) (progress .3) (runUpTo events (length events) progress)
 
 -- ours is the bus's run, so far
-abbrev pub ours : Version
-ours = runUpTo
+abbrev pub ourVersion : Version
+ourVersion = runUpTo
 
 -- where a run passes, each event has led to what a run of the events so far leaves
 abbrev pub EventByEvent : Version → Type 0

@@ -8,8 +8,8 @@ use Rattle.control.specs.Bits.{ewpm, swp}
 -- EWPM 1: the SWP bit of the zone that the counter's page lies in. EWPM 0: the SWP bits are ignored and WP high protects the
 -- whole array
 abbrev pub isProtected : Control → Bool
-isProtected c = cond (ewpm c) (swp c (zoneOf (geometryOf (c .part)) (c .array))) (c .wp)
+isProtected c = cond (ewpm c) (swp c (zoneOf (geometryOf (c .part)) (c .arraycounter))) (c .wp)
 
 -- the ID page, by its lock alone: WP does not act here
 abbrev pub idPageProtected : Control → Bool
-idPageProtected c = c .locked
+idPageProtected c = c .idlocked

@@ -13,7 +13,7 @@ pub fn is_protected(c: Control) -> bool
     ensures { λ r. ⌜ r ≡ isProtected c ⌝ }
 {
     if bit_of(c.config0, EWPM) {
-        let zone = zone_of(c.part, c.array);
+        let zone = zone_of(c.part, c.arraycounter);
         bit_of(c.config1, zone)
     } else {
         c.wp
@@ -24,5 +24,5 @@ pub fn is_protected(c: Control) -> bool
 pub fn id_page_protected(c: Control) -> bool
     ensures { λ r. ⌜ r ≡ idPageProtected c ⌝ }
 {
-    c.locked
+    c.idlocked
 }

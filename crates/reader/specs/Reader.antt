@@ -3,22 +3,22 @@ use Prim.Native.Nat.{ℕ}
 use mathlib.Core.List.{List}
 use mathlib.Core.Path.{_≡_}
 use denote.Ref.{RefT, now}
-use Rattle.transcript.specs.Line.{lineAt, meaning}
-use Rattle.transcript.specs.declared.line.Line.{Line}
+use Rattle.transcript.specs.Frame.{frameAt, meaning}
+use Rattle.transcript.specs.declared.frame.Frame.{Frame}
 use Rattle.reader.specs.declared.Reader.{Reader}
 
 abbrev pub fromStart : RefT (List ℕ) → Reader
 fromStart text = record { text = text; at = 0 }
 
 -- the line at the reader's place
-abbrev pub lineFor : Reader → Line
-lineFor reader = lineAt (now (reader .text)) (reader .at)
+abbrev pub frameFor : Reader → Frame
+frameFor reader = frameAt (now (reader .text)) (reader .at)
 
 -- the same transcript, at the place after that line
 abbrev pub movedOn : Reader → Reader
-movedOn reader = record { text = reader .text; at = meaning (lineFor reader) (reader .at) .place }
+movedOn reader = record { text = reader .text; at = meaning (frameFor reader) (reader .at) .place }
 
 -- what the reader answers, and what it is afterwards
-pub record Answered (reader : Reader) (line : Line) (after : Reader) : Type 0 where
-  pub answer : line ≡ lineFor reader
+pub record Answered (reader : Reader) (frame : Frame) (after : Reader) : Type 0 where
+  pub answer : frame ≡ frameFor reader
   pub moved : after ≡ movedOn reader

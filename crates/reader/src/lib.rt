@@ -1,9 +1,9 @@
 // The reader carries the transcript it was lent and its place in it (paper, "The transcript"). Its functions take the reader
 // apart, and leave the work to functions of a slice and a number.
-use transcript::line::Line;
-use transcript::line::line_at;
+use transcript::frame::Frame;
+use transcript::frame::frame_at;
 ghost use mathlib.Core.Path.{_≡_};
-ghost use Rattle.transcript.specs.Line.{lineAt, meaning};
+ghost use Rattle.transcript.specs.Frame.{frameAt, meaning};
 ghost use Rattle.reader.specs.Reader.{fromStart, Answered};
 
 pub struct Reader<'a> {
@@ -12,13 +12,13 @@ pub struct Reader<'a> {
 }
 
 // The place after an answer that was given at a place: past an event's line, and where it was otherwise.
-fn place_after(line: Line, at: usize) -> usize
-    ensures { λ r. ⌜ r ≡ meaning line at .place ⌝ }
+fn place_after(frame: Frame, at: usize) -> usize
+    ensures { λ r. ⌜ r ≡ meaning frame at .place ⌝ }
 {
-    match line {
-        Line::Event(_, next) => next,
-        Line::Malformed => at,
-        Line::End => at,
+    match frame {
+        Frame::Event(_, next) => next,
+        Frame::Malformed => at,
+        Frame::End => at,
     }
 }
 
@@ -30,18 +30,18 @@ impl<'a> Reader<'a> {
     }
 
     // Answers, and moves on where it stands: past an event's line; 9 and the end leave the place.
-    pub fn next<'s>(&'s mut self) -> Line
-        ensures { λ line. ⌜ Answered (now (self .entry)) line (now (self .exit)) ⌝ }
+    pub fn next<'s>(&'s mut self) -> Frame
+        ensures { λ frame. ⌜ Answered (now (self .entry)) frame (now (self .exit)) ⌝ }
     {
-        let line = line_at(self.text, self.at);
-        self.at = place_after(line, self.at);
-        line
+        let frame = frame_at(self.text, self.at);
+        self.at = place_after(frame, self.at);
+        frame
     }
 }
 
 // The line at a place of a text, by a reader made for it: for callers that hold a plain slice and a number.
-pub fn line_of(text: &[u8], at: usize) -> Line
-    ensures { λ line. ⌜ line ≡ lineAt (now (text .entry)) at ⌝ }
+pub fn read_frame(text: &[u8], at: usize) -> Frame
+    ensures { λ frame. ⌜ frame ≡ frameAt (now (text .entry)) at ⌝ }
 {
     let mut reader = Reader { text, at };
     reader.next()

@@ -42,5 +42,5 @@ pub fn in_id_page(part: u8, at: u32) -> bool
     ensures { λ r. ⌜ r ≡ inIdPage (geometryOf part) at ⌝ }
 {
     let g = geometry_of(part);
-    base::test::and(g.readonly <= at, at < g.readonly + g.idpage)
+    base::logic::and(g.readonly <= at, at < g.readonly + g.idpage)
 }

@@ -3,8 +3,8 @@
 mod recording;
 
 use libc::STDOUT_FILENO;
-use placing::Placing;
-use placing::asked::Asked;
+use placing::NamedPlace;
+use placing::layout::Board;
 use placing::place_named;
 use recording::as_recorded;
 
@@ -15,17 +15,17 @@ const OWN: usize = 1;
 const WORD: usize = 100;
 
 struct Tally {
-    asked: Asked,
+    board: Board,
     played: u64,
     differ: u64,
 }
 
 // The board of the next recording: the words before its name, or the paper's where there is none.
-fn board_of(asked: Asked) -> Asked {
-    if asked.count == 0 {
-        return Asked::of_paper();
+fn board_of(board: Board) -> Board {
+    if board.count == 0 {
+        return Board::of_paper();
     }
-    asked
+    board
 }
 
 fn one_more(count: u64) -> u64 {
@@ -34,20 +34,20 @@ fn one_more(count: u64) -> u64 {
 
 // A word is a chip of the next board, or the name of a recording to be played on it.
 fn with_word(tally: Tally, word: &[u8]) -> Tally {
-    let asked = tally.asked;
+    let board = tally.board;
     let played = tally.played;
     let differ = tally.differ;
     match place_named(word) {
-        Placing::Named(place) => Tally {
-            asked: asked.with_chip(place),
+        NamedPlace::Named(place) => Tally {
+            board: board.with_chip(place),
             played,
             differ,
         },
-        Placing::Unknown => {
-            let same = as_recorded(word, board_of(asked));
+        NamedPlace::Unknown => {
+            let same = as_recorded(word, board_of(board));
             let more = if same { differ } else { one_more(differ) };
             Tally {
-                asked: Asked::bare(),
+                board: Board::bare(),
                 played: one_more(played),
                 differ: more,
             }
@@ -60,7 +60,7 @@ fn main() {
     let mut space = [0u8; WORD];
     let word: &mut [u8] = &mut space;
     let mut tally = Tally {
-        asked: Asked::bare(),
+        board: Board::bare(),
         played: 0,
         differ: 0,
     };

@@ -9,7 +9,7 @@ use factory::erased_arrays;
 use factory::erased_registers;
 use factory::mark_serials;
 use libc::STDOUT_FILENO;
-use placing::asked::Asked;
+use placing::layout::Board;
 use print::PRINTED;
 use print::closing;
 use refusal::Verdict;
@@ -73,7 +73,7 @@ fn read_answers(name: &[u8], into: &mut [u8]) -> Content {
 }
 
 // The answers to a transcript on a fresh bus, and how many bytes they have; a board that is refused answers once.
-fn play(
+fn answers_on(
     count: usize,
     places: [Place; PLACES],
     array: &mut [u8],
@@ -114,7 +114,7 @@ fn same_until(one: &[u8], other: &[u8]) -> usize {
 }
 
 // The number of the line that a place lies in, the first being 1.
-fn line_at(place: usize) -> u64 {
+fn line_number(place: usize) -> u64 {
     (place / PRINTED) as u64 + 1
 }
 
@@ -132,7 +132,7 @@ fn compare(name: &[u8], said: &[u8], recorded: &[u8]) -> bool {
         }
     }
     tell(name, b".answers: line ");
-    io::print_decimal(STDOUT_FILENO, line_at(place));
+    io::print_decimal(STDOUT_FILENO, line_number(place));
     io::write_all(STDOUT_FILENO, b" differs\n");
     false
 }
@@ -145,19 +145,19 @@ fn part_of(asked: usize, most: usize) -> usize
 }
 
 // The board in memories of its size.
-fn play_on(
-    asked: Asked,
+fn answers_in_part(
+    board: Board,
     array: &mut [u8],
     security: &mut [u8],
     tape: &[u8],
     filled: usize,
     said: &mut [u8],
 ) -> usize {
-    let count = asked.count;
-    let places = asked.places;
+    let count = board.count;
+    let places = board.places;
     let array_end = part_of(array_start(count, places), array.len());
     let security_end = part_of(security_start(count, places), security.len());
-    play(
+    answers_on(
         count,
         places,
         &mut array[0..array_end],
@@ -175,7 +175,7 @@ fn compare_parts(name: &[u8], said: &[u8], written: usize, recorded: &[u8], size
     compare(name, &said[0..said_end], &recorded[0..recorded_end])
 }
 
-pub fn as_recorded(name: &[u8], asked: Asked) -> bool {
+pub fn as_recorded(name: &[u8], board: Board) -> bool {
     let mut tape = [0u8; TEXT];
     let mut recorded = [0u8; ANSWERS];
     let text = read_file(name, &mut tape);
@@ -191,8 +191,8 @@ pub fn as_recorded(name: &[u8], asked: Asked) -> bool {
     let mut array = erased_arrays();
     let mut security = erased_registers();
     let mut said = [0u8; ANSWERS];
-    let written = play_on(
-        asked,
+    let written = answers_in_part(
+        board,
         &mut array,
         &mut security,
         &tape,

@@ -15,7 +15,7 @@ use Rattle.control.specs.declared.phase.Phase.{Phase}
 use Rattle.control.specs.declared.phase.Phase.the-variants.{Standby, Busy, AwaitsAddress, AwaitsChoice, AwaitsWord, TakesData, SendsByte}
 use Rattle.control.specs.declared.phase.Source.{Source}
 use Rattle.control.specs.declared.phase.Source.the-variants.{FromArray, FromSecurity, FromConfiguration, FromId, FromNothing}
-use Rattle.control.specs.Control.{inPhase, arrayAt, securityAt}
+use Rattle.control.specs.Control.{inPhase, arraycounterAt, securitycounterAt}
 use Rattle.control.specs.Said.{stays}
 
 -- what reads where nothing is sent, and past a share
@@ -31,16 +31,16 @@ nextIdPlace place = cond (ltb place 3) (place + 1) 3
 
 -- the byte that goes out; an address matching no pattern reads FF
 abbrev pub byteFrom : Source → Control → List ℕ → List ℕ → ℕ
-byteFrom FromArray c array security = getD array (c .array) noByte
-byteFrom FromSecurity c array security = getD security (c .security) noByte
+byteFrom FromArray c array security = getD array (c .arraycounter) noByte
+byteFrom FromSecurity c array security = getD security (c .securitycounter) noByte
 byteFrom (FromConfiguration second) c array security = cond second (c .config1) (c .config0)
 byteFrom (FromId place) c array security = idByte (geometryOf (c .part)) place
 byteFrom FromNothing c array security = noByte
 
 -- counters go from the last address to 0; byte 0 of the configuration follows byte 1
 abbrev pub movedPast : Source → Control → Control
-movedPast FromArray c = arrayAt (nextIn (geometryOf (c .part) .array) (c .array)) c
-movedPast FromSecurity c = securityAt (nextIn (geometryOf (c .part) .security) (c .security)) c
+movedPast FromArray c = arraycounterAt (nextIn (geometryOf (c .part) .array) (c .arraycounter)) c
+movedPast FromSecurity c = securitycounterAt (nextIn (geometryOf (c .part) .security) (c .securitycounter)) c
 movedPast (FromConfiguration second) c = inPhase (SendsByte (FromConfiguration (not second))) c
 movedPast (FromId place) c = inPhase (SendsByte (FromId (nextIdPlace place))) c
 movedPast FromNothing c = c

@@ -51,8 +51,8 @@ fn byte_from(source: Source, c: Control, array: &[u8], security: &[u8]) -> u8
     ensures { λ r. ⌜ r ≡ byteFrom source c (now (array .entry)) (now (security .entry)) ⌝ }
 {
     match source {
-        Source::FromArray => byte_at(array, c.array),
-        Source::FromSecurity => byte_at(security, c.security),
+        Source::FromArray => byte_at(array, c.arraycounter),
+        Source::FromSecurity => byte_at(security, c.securitycounter),
         Source::FromConfiguration(second) => { if second { c.config1 } else { c.config0 } }
         Source::FromId(place) => id_byte(c.part, place),
         Source::FromNothing => NO_BYTE,
@@ -65,8 +65,8 @@ fn moved_past(source: Source, c: Control) -> Control
 {
     let g = geometry_of(c.part);
     match source {
-        Source::FromArray => c.array_at(next_in(g.array, c.array)),
-        Source::FromSecurity => c.security_at(next_in(g.security, c.security)),
+        Source::FromArray => c.arraycounter_at(next_in(g.array, c.arraycounter)),
+        Source::FromSecurity => c.securitycounter_at(next_in(g.security, c.securitycounter)),
         Source::FromConfiguration(second) => c.in_phase(Phase::SendsByte(Source::FromConfiguration(
             !second,
         ))),

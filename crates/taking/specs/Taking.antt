@@ -14,10 +14,10 @@ use Rattle.control.specs.declared.phase.Data.{Data}
 use Rattle.control.specs.declared.phase.Data.the-variants.{ToArray, ToSecurity, ToConfiguration, ToLock, ToNowhere}
 use Rattle.control.specs.declared.phase.Came.{Came}
 use Rattle.control.specs.declared.phase.Came.the-variants.{Zero, One, Two, Three, More}
-use Rattle.control.specs.Control.{arrayAt, securityAt}
+use Rattle.control.specs.Control.{arraycounterAt, securitycounterAt}
 use Rattle.control.specs.Said.{acked, silent, stays}
 use Rattle.addressing.specs.Address.{takeAddress, takeChoice}
-use Rattle.words.specs.Word.{takeWord}
+use Rattle.wordaddress.specs.WordAddress.{takeWord}
 
 -- one byte more for the configuration register; past the third they are not kept
 abbrev pub cameMore : Came → ℕ → Came
@@ -29,13 +29,13 @@ cameMore More byte = More
 
 -- a locked page answers a lock command's data with a missing acknowledge (sheets 10.4.1)
 abbrev pub takeLockData : Control → Answered
-takeLockData c = cond (c .locked) (silent Standby c) (acked (TakesData (ToLock true)) c)
+takeLockData c = cond (c .idlocked) (silent Standby c) (acked (TakesData (ToLock true)) c)
 
 -- each byte is acknowledged, and the counter's low part advances and wraps within the page, in the read-only half and on a
 -- protected or locked page too
 abbrev pub takeData : Data → Control → ℕ → Answered
-takeData ToArray c byte = acked (TakesData ToArray) (arrayAt (nextInPage (geometryOf (c .part)) (c .array)) c)
-takeData ToSecurity c byte = acked (TakesData ToSecurity) (securityAt (nextInPage (geometryOf (c .part)) (c .security)) c)
+takeData ToArray c byte = acked (TakesData ToArray) (arraycounterAt (nextInPage (geometryOf (c .part)) (c .arraycounter)) c)
+takeData ToSecurity c byte = acked (TakesData ToSecurity) (securitycounterAt (nextInPage (geometryOf (c .part)) (c .securitycounter)) c)
 takeData (ToConfiguration came) c byte = acked (TakesData (ToConfiguration (cameMore came byte))) c
 takeData (ToLock some) c byte = takeLockData c
 takeData ToNowhere c byte = acked (TakesData ToNowhere) c
@@ -56,10 +56,10 @@ take c byte = takeIn (c .phase) c byte
 -- Data: a byte for the array or the security register is loaded at its counter's place; nothing is stored yet. Lock data on a
 -- locked page ends the exchange, and any load with it
 abbrev pub loadedData : Data → Load → Control → ℕ → Load
-loadedData ToArray held c byte = load.put (geometryOf (c .part)) (c .array) byte held
-loadedData ToSecurity held c byte = load.put (geometryOf (c .part)) (c .security) byte held
+loadedData ToArray held c byte = load.put (geometryOf (c .part)) (c .arraycounter) byte held
+loadedData ToSecurity held c byte = load.put (geometryOf (c .part)) (c .securitycounter) byte held
 loadedData (ToConfiguration came) held c byte = held
-loadedData (ToLock some) held c byte = cond (c .locked) (load.emptied held) held
+loadedData (ToLock some) held c byte = cond (c .idlocked) (load.emptied held) held
 loadedData ToNowhere held c byte = held
 
 abbrev pub loadedIn : Phase → Load → Control → ℕ → Load

@@ -9,7 +9,7 @@ use control::phase::Data;
 use control::phase::Phase;
 use load::Load;
 use regions::page::next_in_page;
-use words::take_word;
+use wordaddress::take_word;
 ghost use mathlib.Core.Path.{_≡_};
 ghost use Rattle.taking.specs.Taking.{cameMore, takeLockData, takeData, take, loadedData, loaded};
 
@@ -30,7 +30,7 @@ fn came_more(came: Came, byte: u8) -> Came
 fn take_lock_data(c: Control) -> Answered
     ensures { λ r. ⌜ r ≡ takeLockData c ⌝ }
 {
-    if c.locked {
+    if c.idlocked {
         c.silent(Phase::Standby)
     } else {
         c.acked(Phase::TakesData(Data::ToLock(true)))
@@ -43,11 +43,11 @@ fn take_data(kind: Data, c: Control, byte: u8) -> Answered
 {
     match kind {
         Data::ToArray => {
-            let moved = c.array_at(next_in_page(c.part, c.array));
+            let moved = c.arraycounter_at(next_in_page(c.part, c.arraycounter));
             moved.acked(Phase::TakesData(Data::ToArray))
         }
         Data::ToSecurity => {
-            let moved = c.security_at(next_in_page(c.part, c.security));
+            let moved = c.securitycounter_at(next_in_page(c.part, c.securitycounter));
             moved.acked(Phase::TakesData(Data::ToSecurity))
         }
         Data::ToConfiguration(came) => c.acked(Phase::TakesData(Data::ToConfiguration(came_more(
@@ -81,10 +81,10 @@ fn loaded_data(kind: Data, load: Load, c: Control, byte: u8) -> Load
     ensures { λ r. ⌜ r ≡ loadedData kind load c byte ⌝ }
 {
     match kind {
-        Data::ToArray => load.put(c.part, c.array, byte),
-        Data::ToSecurity => load.put(c.part, c.security, byte),
+        Data::ToArray => load.put(c.part, c.arraycounter, byte),
+        Data::ToSecurity => load.put(c.part, c.securitycounter, byte),
         Data::ToConfiguration(_) => load,
-        Data::ToLock(_) => { if c.locked { load.emptied() } else { load } }
+        Data::ToLock(_) => { if c.idlocked { load.emptied() } else { load } }
         Data::ToNowhere => load,
     }
 }

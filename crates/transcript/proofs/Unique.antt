@@ -2,11 +2,11 @@
 use Rattle.base.proofs.Unique.{Unique, same}
 use Rattle.transcript.proofs.digit.digit_of.Kinds as digit-of-kinds
 use Rattle.transcript.proofs.digit.digit_of.Reads as digit-of-reads
-use Rattle.transcript.proofs.line.line_at.Kinds as line-at-kinds
-use Rattle.transcript.proofs.line.line_at.Reads as line-at-reads
+use Rattle.transcript.proofs.frame.frame_at.Kinds as frame-at-kinds
+use Rattle.transcript.proofs.frame.frame_at.Reads as frame-at-reads
 
 pub digit-of-unique : Unique digit-of-kinds.ps digit-of-kinds.r digit-of-reads.Post
 digit-of-unique κs args x y at-x at-y = same
 
-pub line-at-unique : Unique line-at-kinds.ps line-at-kinds.r line-at-reads.Post
-line-at-unique κs args x y at-x at-y = same
+pub frame-at-unique : Unique frame-at-kinds.ps frame-at-kinds.r frame-at-reads.Post
+frame-at-unique κs args x y at-x at-y = same

@@ -1,2 +1,2 @@
 pub mod Digit
-pub mod Line
+pub mod Frame

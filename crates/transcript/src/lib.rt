@@ -1,3 +1,3 @@
 // The text of events: digits and lines (paper, "The transcript").
 pub mod digit;
-pub mod line;
+pub mod frame;

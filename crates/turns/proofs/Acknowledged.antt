@@ -18,7 +18,7 @@ use Rattle.chip.specs.declared.Chip.{Chip}
 use Rattle.chip.specs.declared.event.Event.the-variants.{Start, Sent}
 use Rattle.refusal.specs.Refusal.{answerWord}
 use Rattle.board.specs.Place.{placed}
-use Rattle.order.specs.declared.Order.the-variants.{ToAll}
+use Rattle.decode.specs.declared.Addressed.the-variants.{ToAll}
 use Rattle.lineup.specs.Chips.{chipAt, controlAt}
 use Rattle.line.specs.Line.{clash, lineReply}
 use Rattle.bus.specs.Step.{played, step}

@@ -12,23 +12,23 @@ use Rattle.refusal.specs.declared.Verdict.the-variants.{Passed}
 use Rattle.refusal.specs.Checks.{firstOf}
 use Rattle.board.specs.declared.Place.{Place}
 use Rattle.board.specs.Place.{placeAt}
-use Rattle.order.specs.declared.Order.{Order}
-use Rattle.order.specs.Order.{orderChecks}
+use Rattle.decode.specs.declared.Addressed.{Addressed}
+use Rattle.decode.specs.Decode.{decodeChecks}
 use Rattle.turns.specs.Turn.{Turn, isNaming, Next, isTurn}
 use Rattle.turns.proofs.Asked.{Asked, start-asks, stop-asks, sent-asks, f8-asks, read-asks, naming-asks}
 use Rattle.turns.proofs.Grammar.{Cases, turn-by-cases}
 
 module _ (count : ℕ) where
   abbrev Allowed : List ℕ → Type 0
-  Allowed events = (i : ℕ) → i < length events → firstOf (orderChecks count (getD events i 0)) ≡ Passed
+  Allowed events = (i : ℕ) → i < length events → firstOf (decodeChecks count (getD events i 0)) ≡ Passed
 
   none : Allowed []
   none i inside = absurd (omega arith)
 
   -- one event, and the rest
-  also : (word : ℕ) (more : List ℕ) (order : Order) → Asked count word order → Allowed more → Allowed (word ∷ more)
-  also word more order asked later zero inside = rw (asked .0 .0, asked .0 .1)
-  also word more order asked later (suc i) inside = later i (omega arith)
+  also : (word : ℕ) (more : List ℕ) (addressed : Addressed) → Asked count word addressed → Allowed more → Allowed (word ∷ more)
+  also word more addressed asked later zero inside = rw (asked .0 .0, asked .0 .1)
+  also word more addressed asked later (suc i) inside = later i (omega arith)
 
   module _ (place : Place) (k : ℕ) (below : k < count) where
     naming : (word : ℕ) (more : List ℕ) → isNaming k word ≡ true → Allowed more → Allowed (word ∷ more)
@@ -49,7 +49,7 @@ module _ (count : ℕ) where
 
 pub turn-values-are-allowed : (count : ℕ) (places : List Place) (turn : Turn) → isTurn count places turn ≡ true
     → (i : ℕ) → i < length (turn .events)
-    → firstOf (orderChecks count (getD (turn .events) i 0)) ≡ Passed
+    → firstOf (decodeChecks count (getD (turn .events) i 0)) ≡ Passed
 turn-values-are-allowed count places turn is =
     let place = placeAt places (turn .chip) in
     let below : turn .chip < count = ltb-true _ _ (and-left _ _ is) in

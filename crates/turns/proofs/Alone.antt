@@ -28,15 +28,15 @@ use Rattle.board.specs.Place.{placeAt, placed}
 use Rattle.board.specs.Board.{boardVerdict}
 use Rattle.board.specs.Shares.{figuresAt}
 use Rattle.board.proofs.Laws.{startOf, ends-before}
-use Rattle.order.specs.declared.Order.{Order}
-use Rattle.order.specs.Order.{reaches, eventOf}
+use Rattle.decode.specs.declared.Addressed.{Addressed}
+use Rattle.decode.specs.Decode.{reaches, eventOf}
 use Rattle.lineup.specs.Chips.{chipAt, placesOf}
 use Rattle.lineup.proofs.Laws.{place-at}
 use Rattle.line.specs.Line.{heard, play}
 use Rattle.bus.specs.Step.{entryChecks}
 use Rattle.bus.proofs.Entry.{Entered, entered}
 use Rattle.promises.specs.Playing.{World}
-use Rattle.promises.proofs.Formed.{Formed, formed-of, of-formed, of-ready}
+use Rattle.promises.proofs.Formed.{Formed, formed-of, of-formed, of-entry}
 use Rattle.turns.specs.Alone.{onlyBus, alone}
 
 -- stores that are all its own
@@ -52,19 +52,19 @@ whole-patch values store long =
     let past : drop (length values) store ≡ [] = drop-of-length-le store {i = length values} (omega (arith, long)) in
     rw past (append-nil values)
 
-module _ (order : Order) (c : Chip) (array security : List ℕ) (fits : Fits c array security) (reached : reaches order 0 ≡ true) where
+module _ (addressed : Addressed) (c : Chip) (array security : List ℕ) (fits : Fits c array security) (reached : reaches addressed 0 ≡ true) where
   abbrev taken : Stepped × List ℕ × List ℕ
-  taken = chip.step c array security (eventOf order)
+  taken = chip.step c array security (eventOf addressed)
 
-  pub alone-plays : play order 1 (onlyBus c .chips) array security ≡ (record { chips = onlyBus (taken .0 .chip) .chips; said = heard Nothing (taken .0 .said) }, taken .1, taken .2)
+  pub alone-plays : play addressed 1 (onlyBus c .chips) array security ≡ (record { chips = onlyBus (taken .0 .chip) .chips; said = heard Nothing (taken .0 .said) }, taken .1, taken .2)
   unfolding play upTo placesOf
   alone-plays =
       rw (
         reached,
         whole-share _ array (fits .0),
         whole-share _ security (fits .1),
-        whole-patch (taken .1) array (lengths-kept c array security (eventOf order) .0),
-        whole-patch (taken .2) security (lengths-kept c array security (eventOf order) .1),
+        whole-patch (taken .1) array (lengths-kept c array security (eventOf addressed) .0),
+        whole-patch (taken .2) security (lengths-kept c array security (eventOf addressed) .1),
       )
 
 -- the shares of a chip that the count fills are as long as its part says
@@ -109,7 +109,7 @@ module _ (world : World) (enters : firstOf (entryChecks (world .0) (world .1) (w
   pub alone-enters : firstOf (entryChecks (alone k world .0) (alone k world .1) (alone k world .2)) ≡ Passed
   unfolding upTo placesOf
   alone-enters =
-      of-ready (alone k world .0) (alone k world .1) (alone k world .2) (
+      of-entry (alone k world .0) (alone k world .1) (alone k world .2) (
         of-formed 1 (onlyBus c .chips) (
             record {
               set-up = set-up;

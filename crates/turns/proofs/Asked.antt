@@ -9,50 +9,50 @@ use Rattle.base.specs.Word.{wordOf}
 use Rattle.base.proofs.Fold.{and-left, and-right}
 use Rattle.chip.specs.declared.event.Event.{Event}
 use Rattle.chip.specs.declared.event.Event.the-variants.{Start, Stop, Sent, Read, Wp, CycleOver}
-use Rattle.order.specs.declared.Order.{Order}
-use Rattle.order.specs.declared.Order.the-variants.{ToAll, ToOne}
-use Rattle.order.specs.Order.{kindOf, valueOf, unknownKind, valueAllowed, orderOf}
+use Rattle.decode.specs.declared.Addressed.{Addressed}
+use Rattle.decode.specs.declared.Addressed.the-variants.{ToAll, ToOne}
+use Rattle.decode.specs.Decode.{kindOf, valueOf, unknownKind, valueAllowed, addressedOf}
 use Rattle.keeping.proofs.Beside.{isNamed}
 use Rattle.turns.specs.Turn.{isStart, isStop, isSent, isF8, isRead, isNaming}
 use Rattle.turns.specs.Alone.{renamed}
 
 -- an event word that passes 6 and 7, and what it asks for
-abbrev pub Legal : ℕ → ℕ → Order → Type 0
-Legal count word order =
-    (unknownKind (kindOf word) ≡ false) × (valueAllowed count (kindOf word) (valueOf word) ≡ true) × (orderOf word ≡ order)
+abbrev pub Legal : ℕ → ℕ → Addressed → Type 0
+Legal count word addressed =
+    (unknownKind (kindOf word) ≡ false) × (valueAllowed count (kindOf word) (valueOf word) ≡ true) × (addressedOf word ≡ addressed)
 
 -- the same of a chip that is alone
-abbrev pub only : Order → Order
+abbrev pub only : Addressed → Addressed
 only (ToAll event) = ToAll event
 only (ToOne named event) = ToOne 0 event
 
-abbrev pub Asked : ℕ → ℕ → Order → Type 0
-Asked count word order = Legal count word order × Legal 1 (renamed word) (only order)
+abbrev pub Asked : ℕ → ℕ → Addressed → Type 0
+Asked count word addressed = Legal count word addressed × Legal 1 (renamed word) (only addressed)
 
 -- an event to all keeps its name
 to-all : (count word : ℕ) (event : Event) → renamed word ≡ word → ((n : ℕ) → Legal n word (ToAll event)) → Asked count word (ToAll event)
 to-all count word event same legal = (legal count, rw same (legal 1))
 
 pub start-asks : (count word : ℕ) → isStart word ≡ true → Asked count word (ToAll Start)
-unfolding orderOf
+unfolding addressedOf
 start-asks count word is = let same : word ≡ wordOf 1 0 = eqb-true _ _ is in rw same ((refl, refl, refl), (refl, refl, refl))
 
 pub stop-asks : (count word : ℕ) → isStop word ≡ true → Asked count word (ToAll Stop)
-unfolding orderOf
+unfolding addressedOf
 stop-asks count word is = let same : word ≡ wordOf 2 0 = eqb-true _ _ is in rw same ((refl, refl, refl), (refl, refl, refl))
 
 pub sent-asks : (count word : ℕ) → isSent word ≡ true → Asked count word (ToAll (Sent (valueOf word)))
-unfolding orderOf
+unfolding addressedOf
 sent-asks count word is =
     let kind : kindOf word ≡ 3 = eqb-true _ _ is in
     to-all count word _ (rw kind) (λ n. rw kind (refl, refl, refl))
 
 pub f8-asks : (count word : ℕ) → isF8 word ≡ true → Asked count word (ToAll (Sent 0xF8))
-unfolding orderOf
+unfolding addressedOf
 f8-asks count word is = let same : word ≡ wordOf 3 0xF8 = eqb-true _ _ is in rw same ((refl, refl, refl), (refl, refl, refl))
 
 pub read-asks : (count word : ℕ) → isRead word ≡ true → Asked count word (ToAll (Read (eqb (valueOf word) 1)))
-unfolding orderOf
+unfolding addressedOf
 read-asks count word is =
     let kind : kindOf word ≡ 4 = eqb-true _ _ (and-left _ _ is) in
     to-all count word _ (rw kind) (λ n. rw kind (refl, and-right (eqb (kindOf word) 4) _ is, refl))
@@ -60,7 +60,7 @@ read-asks count word is =
 -- 05, 06 or 07: WP low, WP high, cycle over
 pub naming-asks : (count k word : ℕ) → k < count → isNaming k word ≡ true
     → (event : Event) × ((isNamed event ≡ true) × Asked count word (ToOne k event))
-unfolding orderOf
+unfolding addressedOf
 naming-asks count k word below is = go (eqb (kindOf word) 5) (eqb (kindOf word) 6) refl refl
   where
     kinds : (leb 5 (kindOf word) && leb (kindOf word) 7) ≡ true

@@ -9,7 +9,7 @@ use lib.Dec.{eqb, ltb, leb}
 use lib.ListN.{length, getD, replicate, getD-replicate, length-replicate}
 use lib.Seq.{ext-getD}
 use borrow.Author.Tests.{ltb-true, leb-true, eqb-true, ne-eqb, not-true, not-false}
-use Rattle.base.proofs.test.Laws.{either}
+use Rattle.base.proofs.logic.Laws.{either}
 use Rattle.base.proofs.Fold.{and-left, and-right, all-at}
 use Rattle.parts.specs.Part.{geometryOf}
 use Rattle.parts.specs.Address.{answers, shareAddress}
@@ -34,7 +34,7 @@ use Rattle.chip.specs.declared.event.Event.{Event}
 use Rattle.chip.specs.declared.event.Event.the-variants.{Start, Stop, Sent, Read, Wp, CycleOver, PowerUp}
 use Rattle.chip.specs.Chip.{quiet, take, step}
 use Rattle.board.specs.declared.Place.{Place}
-use Rattle.order.specs.Hearing.{clashesWith}
+use Rattle.decode.specs.Hearing.{clashesWith}
 use Rattle.line.proofs.Deaf.{deaf-stays}
 use Rattle.turns.specs.Idle.{isLoading, isAtRest}
 use Rattle.turns.specs.Turn.{Next, Anything, AddressByte, ChoiceByte, isAddressOf, isFirstByte}
@@ -48,16 +48,16 @@ abbrev pub awaiting : Phase → Chip → Chip
 awaiting phase c = cond (isBusy (c .control .phase)) c (woken phase c)
 
 -- a chip that has no turn, by what must come next in another's
-abbrev pub lifted : Next → Chip → Chip
-lifted Anything c = c
-lifted AddressByte c = awaiting AwaitsAddress c
-lifted ChoiceByte c = awaiting AwaitsChoice c
+abbrev pub whileAnothersTurn : Next → Chip → Chip
+whileAnothersTurn Anything c = c
+whileAnothersTurn AddressByte c = awaiting AwaitsAddress c
+whileAnothersTurn ChoiceByte c = awaiting AwaitsChoice c
 
 -- a chip whose choice is dropped
 abbrev dropped : Chip → Chip
 dropped c = record { control = choosing false (c .control); load = c .load }
 
-pub hears-start : (c : Chip) (a s : List ℕ) → step c a s Start ≡ (quiet (lifted AddressByte c), a, s)
+pub hears-start : (c : Chip) (a s : List ℕ) → step c a s Start ≡ (quiet (whileAnothersTurn AddressByte c), a, s)
 unfolding step
 hears-start c a s = refl
 
@@ -201,7 +201,7 @@ module _ (c : Chip) (rest : isAtRest c ≡ true) (marks : length (c .load .marks
   passes phase a s byte is = hears-awaited phase a s byte (quiet c) (λ standby. is ∙ ap quiet (asleep standby)) (λ busy. refl)
 
   pub hears-f8 : (a s : List ℕ)
-      → step (lifted AddressByte c) a s (Sent 0xF8) ≡ (record { chip = lifted ChoiceByte c; said = cond (isBusy (c .control .phase)) Nothing Ack }, a, s)
+      → step (whileAnothersTurn AddressByte c) a s (Sent 0xF8) ≡ (record { chip = whileAnothersTurn ChoiceByte c; said = cond (isBusy (c .control .phase)) Nothing Ack }, a, s)
   unfolding taking.take taking.loaded takeAddress callOf
   hears-f8 a s =
       hears-awaited AwaitsAddress a s 0xF8 _
@@ -210,7 +210,7 @@ module _ (c : Chip) (rest : isAtRest c ≡ true) (marks : length (c .load .marks
 
   module _ (a s : List ℕ) (place : Place) (byte : ℕ)
       (unshared : shareAddress (geometryOf (place .part)) (place .strap) (geometryOf (c .control .part)) (c .control .strap) ≡ false) where
-    pub passes-first : isFirstByte place byte ≡ true → step (lifted AddressByte c) a s (Sent byte) ≡ (quiet c, a, s)
+    pub passes-first : isFirstByte place byte ≡ true → step (whileAnothersTurn AddressByte c) a s (Sent byte) ≡ (quiet c, a, s)
     unfolding taking.take taking.loaded takeAddress
     passes-first is =
         passes AwaitsAddress a s byte
@@ -221,7 +221,7 @@ module _ (c : Chip) (rest : isAtRest c ≡ true) (marks : length (c .load .marks
         heard : Answered → Stepped
         heard answered = record { chip = record { control = answered .control; load = load.emptied (c .load) }; said = answered .said }
 
-    pub passes-choice : isAddressOf 0b1010 place byte ≡ true → step (lifted ChoiceByte c) a s (Sent byte) ≡ (quiet c, a, s)
+    pub passes-choice : isAddressOf 0b1010 place byte ≡ true → step (whileAnothersTurn ChoiceByte c) a s (Sent byte) ≡ (quiet c, a, s)
     unfolding taking.take taking.loaded takeChoice
     passes-choice is = passes AwaitsChoice a s byte (rw (address-for-nobody c place unshared 0b1010 byte (omega arith) is))
 
@@ -238,7 +238,7 @@ module _ (c : Chip) (rest : isAtRest c ≡ true) (marks : length (c .load .marks
   awaiting-sends-nothing phase silent =
       either (λ (d : Chip). isSending (d .control .phase) ≡ false) (isBusy (c .control .phase)) c (woken phase c) sends-nothing silent
 
-  pub lifted-sends-nothing : (next : Next) → isSending (lifted next c .control .phase) ≡ false
-  lifted-sends-nothing Anything = sends-nothing
-  lifted-sends-nothing AddressByte = awaiting-sends-nothing AwaitsAddress refl
-  lifted-sends-nothing ChoiceByte = awaiting-sends-nothing AwaitsChoice refl
+  pub waiting-sends-nothing : (next : Next) → isSending (whileAnothersTurn next c .control .phase) ≡ false
+  waiting-sends-nothing Anything = sends-nothing
+  waiting-sends-nothing AddressByte = awaiting-sends-nothing AwaitsAddress refl
+  waiting-sends-nothing ChoiceByte = awaiting-sends-nothing AwaitsChoice refl

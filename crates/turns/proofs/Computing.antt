@@ -12,20 +12,20 @@ use Rattle.sending.specs.Sending.{read}
 use Rattle.cycle.specs.Stop.{stop}
 use Rattle.chip.specs.Chip as chip
 use Rattle.refusal.specs.Refusal.{answerWord}
-use Rattle.order.specs.Order.{orderOf}
+use Rattle.decode.specs.Decode.{addressedOf}
 use Rattle.lineup.specs.Chips.{placesOf}
 use Rattle.line.specs.Line.{play}
 use Rattle.bus.specs.Step.{played, event, step}
 use Rattle.promises.specs.Playing.{World, Made, Bench, ledTo, after, answersTo}
 use Rattle.promises.proofs.Runs.{step-is-event}
-use Rattle.turns.specs.Turn.{Turn, isTurnAt, goesOn}
+use Rattle.turns.specs.Turn.{Turn, isTurnAt, isRestOfTurn}
 use Rattle.turns.specs.Shuffle.{areTurns, eventsOf, turnsOf, beganAt, answersOf, answerOf}
 use Rattle.turns.specs.Benches.{Fault, with}
 use Rattle.turns.proofs.Entering.{Entering, entering-kept}
 
 -- who unfolds it unfolds all that an event and a turn are made of
 unfoldable pub eventByEvent : Bench
-unfolding event played play chip.step take loaded takeAddress takeChoice callOf geometryOf read stop holds storePage upTo orderOf placesOf areTurns isTurnAt goesOn eventsOf turnsOf beganAt answersOf after answersTo
+unfolding event played play chip.step take loaded takeAddress takeChoice callOf geometryOf read stop holds storePage upTo addressedOf placesOf areTurns isTurnAt isRestOfTurn eventsOf turnsOf beganAt answersOf after answersTo
 eventByEvent = event
 
 -- what entered still enters with it

@@ -14,9 +14,9 @@ use Rattle.chip.specs.declared.Chip.{Chip}
 use Rattle.chip.specs.declared.Stepped.{Stepped}
 use Rattle.chip.specs.Chip.{quiet}
 use Rattle.chip.specs.Chip as chip
-use Rattle.order.specs.declared.Order.{Order}
-use Rattle.order.specs.Order.{reaches, eventOf}
-use Rattle.order.specs.Hearing.{clashesWith}
+use Rattle.decode.specs.declared.Addressed.{Addressed}
+use Rattle.decode.specs.Decode.{reaches, eventOf}
+use Rattle.decode.specs.Hearing.{clashesWith}
 use Rattle.lineup.specs.Chips.{chipAt, controlAt, placesOf}
 use Rattle.line.specs.Line.{clash}
 use Rattle.bus.specs.Step.{step}
@@ -30,7 +30,7 @@ use Rattle.turns.proofs.Asked.{Asked}
 use Rattle.turns.proofs.Entering.{Entering, entering-kept}
 use Rattle.turns.proofs.Stepping.{step-clashes, count-kept, board-kept, rest-kept, each-moves}
 use Rattle.turns.proofs.Event.{clash-is-its-own, alone-moves, answers-alike}
-use Rattle.turns.proofs.Bystander.{lifted}
+use Rattle.turns.proofs.Bystander.{whileAnothersTurn}
 use Rattle.turns.proofs.Resting.{isHeeding}
 
 -- where a byte must follow at once, chip k does not send
@@ -46,7 +46,7 @@ pub record During (k : ℕ) (next : Next) (began now : World) : Type 0 where
   pub rest : (i : ℕ) → began .0 .count ≤ i → chipAt (now .0 .chips) i ≡ chipAt (began .0 .chips) i
   pub heeds : Heeds next (controlAt (now .0 .chips) k .phase)
   pub others : (j : ℕ) → j < began .0 .count → (j ≡ k → ⊥)
-      → alone j now ≡ (onlyBus (lifted next (chipAt (began .0 .chips) j)), alone j began .1, alone j began .2)
+      → alone j now ≡ (onlyBus (whileAnothersTurn next (chipAt (began .0 .chips) j)), alone j began .1, alone j began .2)
 
 -- which answer to the rest of a turn is excepted; `started` says whether a Start has come just before
 abbrev pub excepted : Bool → List ℕ → ℕ → Bool
@@ -87,20 +87,20 @@ went-on k started word more began now moves answer later =
     answers (suc (suc i)) usual = moved (suc i) usual
 
 -- what chip j makes of an event, of its own world
-abbrev pub takes : Order → ℕ → World → Stepped × List ℕ × List ℕ
-takes order j world =
-    cond (reaches order j) (chip.step (chipAt (world .0 .chips) 0) (world .1) (world .2) (eventOf order)) (quiet (chipAt (world .0 .chips) 0), world .1, world .2)
+abbrev pub takes : Addressed → ℕ → World → Stepped × List ℕ × List ℕ
+takes addressed j world =
+    cond (reaches addressed j) (chip.step (chipAt (world .0 .chips) 0) (world .1) (world .2) (eventOf addressed)) (quiet (chipAt (world .0 .chips) 0), world .1, world .2)
 
 -- another chip sits through an event of the turn
-abbrev pub SitsThrough : Order → Next → Next → (Chip → Said) → ℕ → World → Type 0
-SitsThrough order next next′ says j began =
+abbrev pub SitsThrough : Addressed → Next → Next → (Chip → Said) → ℕ → World → Type 0
+SitsThrough addressed next next′ says j began =
     let c = chipAt (began .0 .chips) j in
-    (clashesWith (eventOf order) (lifted next c .control .phase) ≡ false)
-    × (takes order j (onlyBus (lifted next c), alone j began .1, alone j began .2) ≡ (record { chip = lifted next′ c; said = says c }, alone j began .1, alone j began .2))
+    (clashesWith (eventOf addressed) (whileAnothersTurn next c .control .phase) ≡ false)
+    × (takes addressed j (onlyBus (whileAnothersTurn next c), alone j began .1, alone j began .2) ≡ (record { chip = whileAnothersTurn next′ c; said = says c }, alone j began .1, alone j began .2))
 
 -- an event of the turn, which the others sit through
-module _ (k : ℕ) (next next′ : Next) (began now : World) (below : k < began .0 .count) (d : During k next began now) (word : ℕ) (order : Order) (asked : Asked (now .0 .count) word order) (reached : reaches order k ≡ true) (says : Chip → Said)
-    (sit : (j : ℕ) → j < began .0 .count → (j ≡ k → ⊥) → SitsThrough order next next′ says j began) where
+module _ (k : ℕ) (next next′ : Next) (began now : World) (below : k < began .0 .count) (d : During k next began now) (word : ℕ) (addressed : Addressed) (asked : Asked (now .0 .count) word addressed) (reached : reaches addressed k ≡ true) (says : Chip → Said)
+    (sit : (j : ℕ) → j < began .0 .count → (j ≡ k → ⊥) → SitsThrough addressed next next′ says j began) where
   abbrev chips : List Chip
   chips = now .0 .chips
 
@@ -108,73 +108,73 @@ module _ (k : ℕ) (next next′ : Next) (began now : World) (below : k < began 
   phase = controlAt chips k .phase
 
   abbrev taken : Stepped × List ℕ × List ℕ
-  taken = chip.step (chipAt chips k) (alone k now .1) (alone k now .2) (eventOf order)
+  taken = chip.step (chipAt chips k) (alone k now .1) (alone k now .2) (eventOf addressed)
 
   below-now : k < now .0 .count
   below-now = omega (arith, below, d .count)
 
-  unclashing : (j : ℕ) → j < now .0 .count → (j ≡ k → ⊥) → clashesWith (eventOf order) (controlAt chips j .phase) ≡ false
+  unclashing : (j : ℕ) → j < now .0 .count → (j ≡ k → ⊥) → clashesWith (eventOf addressed) (controlAt chips j .phase) ≡ false
   unclashing j before differ =
       let there : j < began .0 .count = omega (arith, before, d .count) in
-      ap (λ (w : World). clashesWith (eventOf order) (controlAt (w .0 .chips) 0 .phase)) (d .others j there differ) ∙ sit j there differ .0
+      ap (λ (w : World). clashesWith (eventOf addressed) (controlAt (w .0 .chips) 0 .phase)) (d .others j there differ) ∙ sit j there differ .0
 
   -- what another chip has made of it
   sat : (j : ℕ) → j < began .0 .count → (j ≡ k → ⊥)
-      → own order chips (now .1) (now .2) j ≡ (record { chip = lifted next′ (chipAt (began .0 .chips) j); said = says (chipAt (began .0 .chips) j) }, alone j began .1, alone j began .2)
-  sat j before differ = ap (takes order j) (d .others j before differ) ∙ sit j before differ .1
+      → own addressed chips (now .1) (now .2) j ≡ (record { chip = whileAnothersTurn next′ (chipAt (began .0 .chips) j); said = says (chipAt (began .0 .chips) j) }, alone j began .1, alone j began .2)
+  sat j before differ = ap (takes addressed j) (d .others j before differ) ∙ sit j before differ .1
 
-  turn-clash : clash (eventOf order) (now .0 .count) chips ≡ clashesWith (eventOf order) phase
-  turn-clash = clash-is-its-own now (d .entering) k below-now word order asked reached unclashing
+  turn-clash : clash (eventOf addressed) (now .0 .count) chips ≡ clashesWith (eventOf addressed) phase
+  turn-clash = clash-is-its-own now (d .entering) k below-now word addressed asked reached unclashing
 
   -- k itself has made its own step
-  turn-taken : clash (eventOf order) (now .0 .count) chips ≡ false → chipAt (afterOne step now word .0 .chips) k ≡ taken .0 .chip
+  turn-taken : clash (eventOf addressed) (now .0 .count) chips ≡ false → chipAt (afterOne step now word .0 .chips) k ≡ taken .0 .chip
   turn-taken is =
-      ap (λ (w : World). chipAt (w .0 .chips) 0) (each-moves now word order (d .entering) (asked .0) is k below-now) ∙ rw reached
+      ap (λ (w : World). chipAt (w .0 .chips) 0) (each-moves now word addressed (d .entering) (asked .0) is k below-now) ∙ rw reached
 
   -- it may be refused only where the next event may be anything
-  turn-goes-on : (clashesWith (eventOf order) phase ≡ true → next ≡ next′) → Heeds next′ (taken .0 .chip .control .phase) → During k next′ began (afterOne step now word)
-  turn-goes-on refusable heeding = go (clash (eventOf order) (now .0 .count) chips) refl
+  turn-goes-on : (clashesWith (eventOf addressed) phase ≡ true → next ≡ next′) → Heeds next′ (taken .0 .chip .control .phase) → During k next′ began (afterOne step now word)
+  turn-goes-on refusable heeding = go (clash (eventOf addressed) (now .0 .count) chips) refl
     where
-      go : (b : Bool) → clash (eventOf order) (now .0 .count) chips ≡ b → During k next′ began (afterOne step now word)
+      go : (b : Bool) → clash (eventOf addressed) (now .0 .count) chips ≡ b → During k next′ began (afterOne step now word)
       go true is =
           subst (λ (n : Next). During k n began (afterOne step now word)) (refusable (sym turn-clash ∙ is))
-          (subst (λ (w : World). During k next began w) (sym (ap ledTo (step-clashes now word order (d .entering) (asked .0) is))) d)
+          (subst (λ (w : World). During k next began w) (sym (ap ledTo (step-clashes now word addressed (d .entering) (asked .0) is))) d)
       go false is =
           record {
             entering = entering-kept now word (d .entering);
-            count = count-kept now word order (d .entering) (asked .0) ∙ d .count;
-            board = board-kept now word order (d .entering) (asked .0) ∙ d .board;
-            rest = λ i past. rest-kept now word order (d .entering) (asked .0) i (omega (arith, past, d .count)) ∙ d .rest i past;
+            count = count-kept now word addressed (d .entering) (asked .0) ∙ d .count;
+            board = board-kept now word addressed (d .entering) (asked .0) ∙ d .board;
+            rest = λ i past. rest-kept now word addressed (d .entering) (asked .0) i (omega (arith, past, d .count)) ∙ d .rest i past;
             heeds = subst (λ (c : Chip). Heeds next′ (c .control .phase)) (sym (turn-taken is)) heeding;
             others = λ j before differ.
-                each-moves now word order (d .entering) (asked .0) is j (omega (arith, before, d .count))
+                each-moves now word addressed (d .entering) (asked .0) is j (omega (arith, before, d .count))
                 ∙ ap (λ (x : Stepped × List ℕ × List ℕ). (onlyBus (x .0 .chip), x .1, x .2)) (sat j before differ);
           }
 
   module _ (started : Bool) (usual : (started && isF8 word) ≡ false → (c : Chip) → says c ≡ Nothing) where
     pub event-goes : (more : List ℕ)
         → (During k next′ began (afterOne step now word) → Went k (isStart word) more began (afterOne step now word))
-        → (clashesWith (eventOf order) (controlAt (now .0 .chips) k .phase) ≡ true → next ≡ next′)
-        → Heeds next′ (chip.step (chipAt (now .0 .chips) k) (alone k now .1) (alone k now .2) (eventOf order) .0 .chip .control .phase)
+        → (clashesWith (eventOf addressed) (controlAt (now .0 .chips) k .phase) ≡ true → next ≡ next′)
+        → Heeds next′ (chip.step (chipAt (now .0 .chips) k) (alone k now .1) (alone k now .2) (eventOf addressed) .0 .chip .control .phase)
         → Went k started (word ∷ more) began now
     event-goes more later refusable heeding =
         went-on k started word more began now
-        (alone-moves now (d .entering) k below-now word order asked reached unclashing)
-        (λ none. answers-alike now (d .entering) k below-now word order asked reached unclashing λ j before differ.
+        (alone-moves now (d .entering) k below-now word addressed asked reached unclashing)
+        (λ none. answers-alike now (d .entering) k below-now word addressed asked reached unclashing λ j before differ.
         ap (λ (x : Stepped × List ℕ × List ℕ). x .0 .said) (sat j (omega (arith, before, d .count)) differ) ∙ usual none _)
         (later (turn-goes-on refusable heeding))
 
     -- one that k cannot clash with
     pub calm-goes : (more : List ℕ)
         → (During k next′ began (afterOne step now word) → Went k (isStart word) more began (afterOne step now word))
-        → clashesWith (eventOf order) (controlAt (now .0 .chips) k .phase) ≡ false
-        → Heeds next′ (chip.step (chipAt (now .0 .chips) k) (alone k now .1) (alone k now .2) (eventOf order) .0 .chip .control .phase)
+        → clashesWith (eventOf addressed) (controlAt (now .0 .chips) k .phase) ≡ false
+        → Heeds next′ (chip.step (chipAt (now .0 .chips) k) (alone k now .1) (alone k now .2) (eventOf addressed) .0 .chip .control .phase)
         → Went k started (word ∷ more) began now
     calm-goes more later calm = event-goes more later (λ clashes. absurd (true≢false (sym clashes ∙ calm)))
 
     -- the last one, which leaves k at rest
-    pub last-goes : Anything ≡ next′ → clashesWith (eventOf order) (controlAt (now .0 .chips) k .phase) ≡ false
-        → isAtRest (chip.step (chipAt (now .0 .chips) k) (alone k now .1) (alone k now .2) (eventOf order) .0 .chip) ≡ true
+    pub last-goes : Anything ≡ next′ → clashesWith (eventOf addressed) (controlAt (now .0 .chips) k .phase) ≡ false
+        → isAtRest (chip.step (chipAt (now .0 .chips) k) (alone k now .1) (alone k now .2) (eventOf addressed) .0 .chip) ≡ true
         → Went k started (word ∷ []) began now
     unfolding after answersTo
     last-goes free calm rests =

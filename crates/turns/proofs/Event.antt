@@ -16,10 +16,10 @@ use Rattle.chip.specs.Chip as chip
 use Rattle.refusal.specs.declared.Refusal.the-variants.{Clash}
 use Rattle.refusal.specs.Refusal.{answerWord}
 use Rattle.board.specs.Place.{placed}
-use Rattle.order.specs.declared.Order.{Order}
-use Rattle.order.specs.declared.Order.the-variants.{ToAll, ToOne}
-use Rattle.order.specs.Order.{reaches, eventOf}
-use Rattle.order.specs.Hearing.{clashesWith}
+use Rattle.decode.specs.declared.Addressed.{Addressed}
+use Rattle.decode.specs.declared.Addressed.the-variants.{ToAll, ToOne}
+use Rattle.decode.specs.Decode.{reaches, eventOf}
+use Rattle.decode.specs.Hearing.{clashesWith}
 use Rattle.lineup.specs.Chips.{chipAt, controlAt}
 use Rattle.line.specs.Line.{clash, play, lineReply}
 use Rattle.bus.specs.declared.Stepped.{Stepped}
@@ -37,15 +37,15 @@ use Rattle.turns.proofs.Typed.{alone-typed}
 use Rattle.turns.proofs.Entering.{Entering}
 use Rattle.turns.proofs.Stepping.{step-clashes, step-plays, each-moves}
 
-event-only : (order : Order) → eventOf (only order) ≡ eventOf order
+event-only : (addressed : Addressed) → eventOf (only addressed) ≡ eventOf addressed
 event-only (ToAll event) = refl
 event-only (ToOne named event) = refl
 
-reaches-only : (order : Order) → reaches (only order) 0 ≡ true
+reaches-only : (addressed : Addressed) → reaches (only addressed) 0 ≡ true
 reaches-only (ToAll event) = refl
 reaches-only (ToOne named event) = refl
 
-module _ (world : World) (e : Entering world) (k : ℕ) (below : k < world .0 .count) (word : ℕ) (order : Order) (asked : Asked (world .0 .count) word order) (reached : reaches order k ≡ true) (unclashing : (j : ℕ) → j < world .0 .count → (j ≡ k → ⊥) → clashesWith (eventOf order) (controlAt (world .0 .chips) j .phase) ≡ false) where
+module _ (world : World) (e : Entering world) (k : ℕ) (below : k < world .0 .count) (word : ℕ) (addressed : Addressed) (asked : Asked (world .0 .count) word addressed) (reached : reaches addressed k ≡ true) (unclashing : (j : ℕ) → j < world .0 .count → (j ≡ k → ⊥) → clashesWith (eventOf addressed) (controlAt (world .0 .chips) j .phase) ≡ false) where
   abbrev count : ℕ
   count = world .0 .count
 
@@ -56,7 +56,7 @@ module _ (world : World) (e : Entering world) (k : ℕ) (below : k < world .0 .c
   c = chipAt chips k
 
   abbrev taken : chips-own.Stepped × List ℕ × List ℕ
-  taken = chip.step c (alone k world .1) (alone k world .2) (eventOf order)
+  taken = chip.step c (alone k world .1) (alone k world .2) (eventOf addressed)
 
   entry : Entered (world .0) (world .1) (world .2)
   entry = entered (world .0) (world .1) (world .2) (e .enters)
@@ -65,58 +65,58 @@ module _ (world : World) (e : Entering world) (k : ℕ) (below : k < world .0 .c
   by-itself = record { typed = alone-typed world k (omega (arith, below, entry .chips-most)) (e .typed); enters = alone-enters world (e .enters) k below }
 
   -- refusal 8 is k's own, on both
-  pub clash-is-its-own : clash (eventOf order) (world .0 .count) (world .0 .chips) ≡ clashesWith (eventOf order) (controlAt (world .0 .chips) k .phase)
+  pub clash-is-its-own : clash (eventOf addressed) (world .0 .count) (world .0 .chips) ≡ clashesWith (eventOf addressed) (controlAt (world .0 .chips) k .phase)
   clash-is-its-own =
-      any-one (λ (i : ℕ). clashesWith (eventOf order) (controlAt chips i .phase)) (placed count) k (omega (arith, entry .all-placed))
+      any-one (λ (i : ℕ). clashesWith (eventOf addressed) (controlAt chips i .phase)) (placed count) k (omega (arith, entry .all-placed))
       (λ j before. unclashing j (omega (arith, entry .all-placed)))
 
-  clash-alone : clash (eventOf (only order)) 1 (onlyBus c .chips) ≡ clash (eventOf order) count chips
+  clash-alone : clash (eventOf (only addressed)) 1 (onlyBus c .chips) ≡ clash (eventOf addressed) count chips
   unfolding upTo
-  clash-alone = rw (event-only order) (or-false _ ∙ sym clash-is-its-own)
+  clash-alone = rw (event-only addressed) (or-false _ ∙ sym clash-is-its-own)
 
   -- so what is the same of both refused, and of both played, is the same of both
   both-step : {A : Type 0} (f g : Made → A)
       → f (refused Clash (world .0) (world .1) (world .2)) ≡ g (refused Clash (alone k world .0) (alone k world .1) (alone k world .2))
-      → (clash (eventOf order) count chips ≡ false
-      → f (played order (world .0) (world .1) (world .2)) ≡ g (played (only order) (alone k world .0) (alone k world .1) (alone k world .2)))
+      → (clash (eventOf addressed) count chips ≡ false
+      → f (played addressed (world .0) (world .1) (world .2)) ≡ g (played (only addressed) (alone k world .0) (alone k world .1) (alone k world .2)))
       → f (stepped step world word) ≡ g (stepped step (alone k world) (renamed word))
-  both-step {A} f g refusing playing = go (clash (eventOf order) count chips) refl
+  both-step {A} f g refusing playing = go (clash (eventOf addressed) count chips) refl
     where
-      go : (b : Bool) → clash (eventOf order) count chips ≡ b → f (stepped step world word) ≡ g (stepped step (alone k world) (renamed word))
+      go : (b : Bool) → clash (eventOf addressed) count chips ≡ b → f (stepped step world word) ≡ g (stepped step (alone k world) (renamed word))
       go true is =
-          ap f (step-clashes world word order e (asked .0) is)
+          ap f (step-clashes world word addressed e (asked .0) is)
           ∙ refusing
-          ∙ sym (ap g (step-clashes (alone k world) (renamed word) (only order) by-itself (asked .1) (clash-alone ∙ is)))
+          ∙ sym (ap g (step-clashes (alone k world) (renamed word) (only addressed) by-itself (asked .1) (clash-alone ∙ is)))
       go false is =
-          ap f (step-plays world word order e (asked .0) is)
+          ap f (step-plays world word addressed e (asked .0) is)
           ∙ playing is
-          ∙ sym (ap g (step-plays (alone k world) (renamed word) (only order) by-itself (asked .1) (clash-alone ∙ is)))
+          ∙ sym (ap g (step-plays (alone k world) (renamed word) (only addressed) by-itself (asked .1) (clash-alone ∙ is)))
 
   -- played alone, k has made its own step
-  alone-played : play (only order) 1 (onlyBus c .chips) (alone k world .1) (alone k world .2) ≡ (record { chips = onlyBus (taken .0 .chip) .chips; said = taken .0 .said }, taken .1, taken .2)
+  alone-played : play (only addressed) 1 (onlyBus c .chips) (alone k world .1) (alone k world .2) ≡ (record { chips = onlyBus (taken .0 .chip) .chips; said = taken .0 .said }, taken .1, taken .2)
   alone-played =
-      alone-plays (only order) c (alone k world .1) (alone k world .2) (shares-fit world (e .enters) k below) (reaches-only order)
-      ∙ rw (event-only order, after-silence (taken .0 .said))
+      alone-plays (only addressed) c (alone k world .1) (alone k world .2) (shares-fit world (e .enters) k below) (reaches-only addressed)
+      ∙ rw (event-only addressed, after-silence (taken .0 .said))
 
   pub alone-moves : alone k (afterOne step world word) ≡ afterOne step (alone k world) (renamed word)
   unfolding played
   alone-moves =
       both-step (λ next. alone k (ledTo next)) ledTo refl λ is.
-      sym (ap (λ next. alone k (ledTo next)) (step-plays world word order e (asked .0) is))
-      ∙ each-moves world word order e (asked .0) is k below
+      sym (ap (λ next. alone k (ledTo next)) (step-plays world word addressed e (asked .0) is))
+      ∙ each-moves world word addressed e (asked .0) is k below
       ∙ rw (reached, alone-played)
 
   -- where no other chip says anything, k is heard
-  pub answers-alike : ((j : ℕ) → j < world .0 .count → (j ≡ k → ⊥) → own order (world .0 .chips) (world .1) (world .2) j .0 .said ≡ Nothing)
+  pub answers-alike : ((j : ℕ) → j < world .0 .count → (j ≡ k → ⊥) → own addressed (world .0 .chips) (world .1) (world .2) j .0 .said ≡ Nothing)
       → answerTo step world word ≡ answerTo step (alone k world) (renamed word)
   unfolding played
   answers-alike silent =
       both-step (λ next. answerWord (next .0 .answer)) (λ next. answerWord (next .0 .answer)) refl λ is.
-      ap (λ (said : Said). wordOf 0 (lineReply (eventOf order) said)) heard-alone ∙ rw (event-only order, alone-played)
+      ap (λ (said : Said). wordOf 0 (lineReply (eventOf addressed) said)) heard-alone ∙ rw (event-only addressed, alone-played)
     where
-      heard-alone : play order count chips (world .1) (world .2) .0 .said ≡ taken .0 .said
+      heard-alone : play addressed count chips (world .1) (world .2) .0 .said ≡ taken .0 .said
       heard-alone =
-          answer-is-gathered order count chips (world .1) (world .2) (has-four (e .typed)) (entry .array-fits) (entry .security-fits)
-          ∙ one-speaks (λ (i : ℕ). own order chips (world .1) (world .2) i .0 .said) (placed count) k (omega (arith, entry .all-placed))
+          answer-is-gathered addressed count chips (world .1) (world .2) (has-four (e .typed)) (entry .array-fits) (entry .security-fits)
+          ∙ one-speaks (λ (i : ℕ). own addressed chips (world .1) (world .2) i .0 .said) (placed count) k (omega (arith, entry .all-placed))
           (λ j before differ. silent j (omega (arith, entry .all-placed)) differ)
           ∙ rw reached

@@ -32,7 +32,7 @@ use Rattle.turns.specs.Turn.{Turn}
 use Rattle.turns.specs.Shuffle.{eventsOf, answersOf, answerOf, turnOf, isExcepted, Shuffle}
 use Rattle.turns.specs.Alone.{onlyBus, alone, ownTurns}
 use Rattle.turns.specs.Playing.{ending}
-use Rattle.turns.specs.Benches.{ours}
+use Rattle.turns.specs.Benches.{ourBench}
 use Rattle.turns.specs.Undisturbed.{Ready, Turns, Alike}
 use Rattle.turns.proofs.Entering.{Entering, Idling, idling}
 use Rattle.turns.proofs.OneTurn.{alone-idles}
@@ -138,7 +138,7 @@ others-are-a-shuffle (suc (suc (suc k))) =
     rw (ne-eqb 0 (suc (suc (suc k))) (omega arith), ne-eqb 1 (suc (suc (suc k))) (omega arith), ne-eqb 2 (suc (suc (suc k))) (omega arith))
 
 -- so the demand speaks of them
-pub board-is-undisturbed : Alike turns others (ending ours board turns) (ending ours board others)
+pub board-is-undisturbed : Alike turns others (ending ourBench board turns) (ending ourBench board others)
 board-is-undisturbed = undisturbed .shuffled board turns others board-is-typed board-is-ready turns-are-turns others-are-a-shuffle
 
 -- part of a store that holds one byte throughout
@@ -166,7 +166,7 @@ on-board = omega arith
 
 -- the answer to event i of its j-th turn
 abbrev answerOfBusy : ℕ → ℕ → ℕ
-answerOfBusy j i = answerOf 1 turns (ending ours board turns .1) j i
+answerOfBusy j i = answerOf 1 turns (ending ourBench board turns .1) j i
 
 -- polled it is silent; its cycle over, it acknowledges and sends FFh
 pub busy-chip-answers : (answerOfBusy 0 1 ≡ 0x0000) × (answerOfBusy 2 1 ≡ 0x0001) × (answerOfBusy 2 2 ≡ 0x00FF)

@@ -9,8 +9,8 @@ use lib.ListN.{length}
 use borrow.Author.Tests.{eqb-true}
 use Rattle.base.proofs.Fold.{and-left, and-right}
 use Rattle.board.specs.declared.Place.{Place}
-use Rattle.order.specs.Order.{valueOf}
-use Rattle.turns.specs.Turn.{isStart, isStop, isSent, isF8, isRead, isNaming, isAddressOf, isFirstByte, Next, Anything, AddressByte, ChoiceByte, goesOn, isTurnAt}
+use Rattle.decode.specs.Decode.{valueOf}
+use Rattle.turns.specs.Turn.{isStart, isStop, isSent, isF8, isRead, isNaming, isAddressOf, isFirstByte, Next, Anything, AddressByte, ChoiceByte, isRestOfTurn, isTurnAt}
 
 -- nothing is left
 only-one : (P : List ℕ → Type 0) (more : List ℕ) → eqb (length more) 0 ≡ true → P [] → P more
@@ -37,14 +37,14 @@ module _ (place : Place) (k : ℕ) where
         go false true is-sent is-read some = cases .read word more is-read
         go false false is-sent is-read some = cases .named word more some
 
-    pub by-cases : (next : Next) (events : List ℕ) → goesOn place k next events ≡ true → P next events
-    unfolding goesOn
+    pub by-cases : (next : Next) (events : List ℕ) → isRestOfTurn place k next events ≡ true → P next events
+    unfolding isRestOfTurn
     by-cases next [] goes = absurd (false≢true goes)
     by-cases Anything (word ∷ more) goes = go (isStop word) (isStart word) refl refl goes (λ next. by-cases next more)
       where
         go : (stops starts : Bool) → isStop word ≡ stops → isStart word ≡ starts
-            → cond stops (eqb (length more) 0) (cond starts (goesOn place k AddressByte more) ((isSent word || (isRead word || isNaming k word)) && goesOn place k Anything more)) ≡ true
-            → ((next : Next) → goesOn place k next more ≡ true → P next more)
+            → cond stops (eqb (length more) 0) (cond starts (isRestOfTurn place k AddressByte more) ((isSent word || (isRead word || isNaming k word)) && isRestOfTurn place k Anything more)) ≡ true
+            → ((next : Next) → isRestOfTurn place k next more ≡ true → P next more)
             → P Anything (word ∷ more)
         go true starts is-stop is-start held later = only-one (λ (rest : List ℕ). P Anything (word ∷ rest)) more held (cases .stop word is-stop)
         go false true is-stop is-start held later = cases .start word more is-start (later AddressByte held)
@@ -53,8 +53,8 @@ module _ (place : Place) (k : ℕ) where
     by-cases AddressByte (word ∷ more) goes = go (isF8 word) refl goes (λ next. by-cases next more)
       where
         go : (is : Bool) → isF8 word ≡ is
-            → cond is (goesOn place k ChoiceByte more) (isSent word && (isFirstByte place (valueOf word) && goesOn place k Anything more)) ≡ true
-            → ((next : Next) → goesOn place k next more ≡ true → P next more)
+            → cond is (isRestOfTurn place k ChoiceByte more) (isSent word && (isFirstByte place (valueOf word) && isRestOfTurn place k Anything more)) ≡ true
+            → ((next : Next) → isRestOfTurn place k next more ≡ true → P next more)
             → P AddressByte (word ∷ more)
         go true is held later = cases .f8 word more is (later ChoiceByte held)
         go false is held later =
@@ -72,7 +72,7 @@ module _ (place : Place) (k : ℕ) where
     turn-by-cases Q run named [] is = absurd (false≢true is)
     turn-by-cases Q run named (word ∷ more) is = go (isStart word) refl is
       where
-        go : (starts : Bool) → isStart word ≡ starts → cond starts (goesOn place k AddressByte more) (isNaming k word && eqb (length more) 0) ≡ true → Q (word ∷ more)
+        go : (starts : Bool) → isStart word ≡ starts → cond starts (isRestOfTurn place k AddressByte more) (isNaming k word && eqb (length more) 0) ≡ true → Q (word ∷ more)
         go true starts held = run word more starts (by-cases AddressByte more held)
         go false starts held =
             only-one (λ (rest : List ℕ). Q (word ∷ rest)) more (and-right (isNaming k word) _ held) (named word (and-left _ _ held))

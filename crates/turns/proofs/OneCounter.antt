@@ -25,7 +25,7 @@ use Rattle.lineup.specs.Chips.{noChip, chipAt, controlAt, placeOf, placesOf}
 use Rattle.bus.specs.declared.Bus.{Bus}
 use Rattle.bus.specs.Step.{entryChecks}
 use Rattle.bus.proofs.Typed.{OfItsType, count-fits, has-four, bus-typed, chip-typed}
-use Rattle.promises.proofs.Formed.{formed-of, of-formed, ready-of, of-ready}
+use Rattle.promises.proofs.Formed.{formed-of, of-formed, entry-of, of-entry}
 use Rattle.turns.specs.Benches.{movedTo, shared}
 use Rattle.turns.proofs.Entering.{Entering}
 use Rattle.turns.proofs.Computing.{Keeps}
@@ -55,7 +55,7 @@ module _ (at : ℕ) where
       let inside : ltb (at % size) size ≡ true = lt-ltb _ _ (counter-inside (held .part)) in
       and-both _ _
       (and-both _ _
-      (and-both _ _ (and-left (isSetUp held) _ front) (and-both _ _ inside (and-right (ltb (held .array) size) _ counters)))
+      (and-both _ _ (and-left (isSetUp held) _ front) (and-both _ _ inside (and-right (ltb (held .arraycounter) size) _ counters)))
       (and-right (isSetUp held && countersFit held) _ fits))
       (and-right (controlFits held) _ formed)
 
@@ -80,7 +80,7 @@ module _ (at : ℕ) where
 
     still-enters : firstOf (entryChecks bus array security) ≡ Passed → Entering (moved, array, security)
     still-enters passed =
-        let (formed, array-fits, security-fits) = ready-of bus array security passed in
+        let (formed, array-fits, security-fits) = entry-of bus array security passed in
         let was = formed-of _ _ formed in
         let most = placed-most (bus .count) in
         let now =
@@ -90,7 +90,7 @@ module _ (at : ℕ) where
           fit = λ i below. rw (here i (omega (arith, most))) (still-formed (chipAt (bus .chips) i) (was .fit i below));
           apart = λ i j below before. rw (controlAt, here i (omega (arith, most)), here j (omega (arith, most))) (was .apart i j below before);
         }) in
-        record { typed = moved-typed; enters = of-ready moved array security (now, rw same-places array-fits, rw same-places security-fits) }
+        record { typed = moved-typed; enters = of-entry moved array security (now, rw same-places array-fits, rw same-places security-fits) }
 
 pub shared-keeps : Keeps shared
 shared-keeps world word made e = still-enters _ (made .0 .bus) (made .1) (made .2) (e .typed) (e .enters)

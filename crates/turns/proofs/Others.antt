@@ -14,13 +14,13 @@ use Rattle.chip.specs.declared.Chip.{Chip}
 use Rattle.chip.specs.declared.event.Event.{Event}
 use Rattle.chip.specs.declared.event.Event.the-variants.{Start, Stop, Sent, Read}
 use Rattle.board.specs.declared.Place.{Place}
-use Rattle.order.specs.declared.Order.the-variants.{ToAll, ToOne}
+use Rattle.decode.specs.declared.Addressed.the-variants.{ToAll, ToOne}
 use Rattle.lineup.specs.Chips.{chipAt, controlAt}
 use Rattle.promises.specs.Playing.{World}
 use Rattle.turns.specs.Idle.{isAtRest}
 use Rattle.turns.specs.Turn.{Anything, AddressByte, ChoiceByte, isAddressOf, isFirstByte}
 use Rattle.turns.specs.Alone.{alone}
-use Rattle.turns.proofs.Bystander.{hears-start, hears-f8, passes-first, passes-choice, passes-byte, passes-read, passes-stop, rest-clashes, lifted-sends-nothing}
+use Rattle.turns.proofs.Bystander.{hears-start, hears-f8, passes-first, passes-choice, passes-byte, passes-read, passes-stop, rest-clashes, waiting-sends-nothing}
 use Rattle.turns.proofs.During.{SitsThrough}
 
 -- what they say to most events, and to F8h
@@ -62,7 +62,7 @@ module _ (k : ℕ) (place : Place) (began : World) (b : Others k place began) (j
   sits-stop = (refl, passes-stop c rest marks a s)
 
   pub sits-byte : (byte : ℕ) → SitsThrough (ToAll (Sent byte)) Anything Anything silent j began
-  sits-byte byte = (lifted-sends-nothing c rest marks Anything, passes-byte c rest marks a s byte)
+  sits-byte byte = (waiting-sends-nothing c rest marks Anything, passes-byte c rest marks a s byte)
 
   pub sits-read : (nack : Bool) → SitsThrough (ToAll (Read nack)) Anything Anything silent j began
   sits-read nack = (rest-clashes c rest marks (Read nack), passes-read c rest marks a s nack)
@@ -72,11 +72,11 @@ module _ (k : ℕ) (place : Place) (began : World) (b : Others k place began) (j
 
   pub sits-first : (byte : ℕ) → isFirstByte place byte ≡ true → SitsThrough (ToAll (Sent byte)) AddressByte Anything silent j began
   sits-first byte is =
-      (lifted-sends-nothing c rest marks AddressByte, passes-first c rest marks a s place byte (b .unshared j before differ) is)
+      (waiting-sends-nothing c rest marks AddressByte, passes-first c rest marks a s place byte (b .unshared j before differ) is)
 
   pub sits-f8 : SitsThrough (ToAll (Sent 0xF8)) AddressByte ChoiceByte toF8 j began
-  sits-f8 = (lifted-sends-nothing c rest marks AddressByte, hears-f8 c rest marks a s)
+  sits-f8 = (waiting-sends-nothing c rest marks AddressByte, hears-f8 c rest marks a s)
 
   pub sits-choice : (byte : ℕ) → isAddressOf 0b1010 place byte ≡ true → SitsThrough (ToAll (Sent byte)) ChoiceByte Anything silent j began
   sits-choice byte is =
-      (lifted-sends-nothing c rest marks ChoiceByte, passes-choice c rest marks a s place byte (b .unshared j before differ) is)
+      (waiting-sends-nothing c rest marks ChoiceByte, passes-choice c rest marks a s place byte (b .unshared j before differ) is)

@@ -9,7 +9,7 @@ use Rattle.refusal.specs.declared.Verdict.the-variants.{Passed}
 use Rattle.bus.specs.Step.{step}
 use Rattle.bus.proofs.Typed.{OfItsType}
 use Rattle.promises.specs.Playing.{World, answersTo}
-use Rattle.promises.proofs.Calls.{RunCall, left, left-typed, Plays, Returned, returned, world-typed}
+use Rattle.promises.proofs.Calls.{RunCall, runEnd, run-end-typed, Plays, Returned, returned, world-typed}
 use Rattle.promises.proofs.Playing.{answers-length}
 use Rattle.turns.specs.Turn.{Turn}
 use Rattle.turns.specs.Shuffle.{turnOf, beganAt, eventsOf, Shuffle, answerOf, isExcepted}
@@ -22,7 +22,7 @@ use Rattle.turns.proofs.Undisturbed.{undisturbed}
 
 -- what follows the answers is not looked at
 own-answer : {call : RunCall} {world : World} (turns : List Turn) → Returned call world (eventsOf turns) → (k j i : ℕ)
-    → answerOf k turns (left call .1) j i ≡ answerOf k turns (answersTo step world (eventsOf turns)) j i
+    → answerOf k turns (runEnd call .1) j i ≡ answerOf k turns (answersTo step world (eventsOf turns)) j i
 own-answer {world} turns back k j i =
     ap (λ (answers : List ℕ). answerOf k turns answers j i) (back .answers)
     ∙ ap (λ (own : List (List ℕ)). getD (getD own j []) i 0) (answers-past k turns _ _ (answers-length step world (eventsOf turns)))
@@ -37,7 +37,7 @@ module _ (world : World) (ready : Ready world) (turns : List Turn) (are-turns : 
 
   -- a call of a list of turns, and a call of a shuffle of it, each with a buffer of its own
   pub shuffled-runs : (others : List Turn) → Shuffle turns others → (one other : RunCall) → Plays one world (eventsOf turns) → Plays other world (eventsOf others)
-      → (one .result .verdict ≡ Passed) × (other .result .verdict ≡ Passed) × Alike turns others (left one) (left other)
+      → (one .result .verdict ≡ Passed) × (other .result .verdict ≡ Passed) × Alike turns others (runEnd one) (runEnd other)
   shuffled-runs others shuffle one other plays plays′ =
       let ran = back one plays in
       let ran′ = back other plays′ in
@@ -52,7 +52,7 @@ module _ (world : World) (ready : Ready world) (turns : List Turn) (are-turns : 
 
   -- a call of a list of turns, and a call of those of chip k where it is alone
   pub runs-as-alone : (k : ℕ) → k < world .0 .count → (one byItself : RunCall) → Plays one world (eventsOf turns) → Plays byItself (alone k world) (eventsOf (ownTurns k turns))
-      → (one .result .verdict ≡ Passed) × (byItself .result .verdict ≡ Passed) × AsAlone k turns (left one) (left byItself)
+      → (one .result .verdict ≡ Passed) × (byItself .result .verdict ≡ Passed) × AsAlone k turns (runEnd one) (runEnd byItself)
   runs-as-alone k below one byItself plays plays′ =
       let ran = back one plays in
       let ran′ = returned byItself (alone k world) (eventsOf (ownTurns k turns)) plays′ (alone-enters world (ready .enters) k below) in
@@ -68,15 +68,15 @@ module _ (world : World) (ready : Ready world) (turns : List Turn) (are-turns : 
   -- the excepted answer, and a call of what stands before it: the bus that this hands back says whether it is acknowledged
   pub runs-acknowledge : (k j i : ℕ) → isExcepted (turnOf k turns j) i ≡ true → (one before : RunCall) → Plays one world (eventsOf turns)
       → Plays before world (take (beganAt k turns j + i) (eventsOf turns))
-      → answerOf k turns (left one .1) j i ≡ acknowledge (left before .0 .0)
+      → answerOf k turns (runEnd one .1) j i ≡ acknowledge (runEnd before .0 .0)
   runs-acknowledge k j i is one before plays plays′ =
       own-answer turns (back one plays) k j i
       ∙ undisturbed .excepted world turns (typed one plays) ready are-turns k j i is
       ∙ ap (λ (w : World). acknowledge (w .0)) (sym (back before plays′ .ends))
 
   -- and what a call of turns hands back is ready for more, and a value of its type
-  pub runs-end-ready : (one : RunCall) → Plays one world (eventsOf turns) → OfItsType (left one .0 .0) × Ready (left one .0)
+  pub runs-end-ready : (one : RunCall) → Plays one world (eventsOf turns) → OfItsType (runEnd one .0 .0) × Ready (runEnd one .0)
   runs-end-ready one plays = (
-    left-typed one,
+    run-end-typed one,
     subst Ready (sym (back one plays .ends)) (turns-end-ready turns world (typed one plays) ready are-turns .1),
   )

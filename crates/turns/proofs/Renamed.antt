@@ -10,11 +10,11 @@ use Rattle.base.specs.Word.{wordOf}
 use Rattle.base.proofs.Fold.{and-left, and-right, and-both, or-left, or-right}
 use Rattle.board.specs.declared.Place.{Place}
 use Rattle.board.specs.Place.{placeAt}
-use Rattle.order.specs.Order.{kindOf, valueOf}
+use Rattle.decode.specs.Decode.{kindOf, valueOf}
 use Rattle.lineup.specs.Chips.{placesOf}
 use Rattle.lineup.proofs.Laws.{place-at}
 use Rattle.promises.specs.Playing.{World}
-use Rattle.turns.specs.Turn.{Turn, isStart, isStop, isSent, isF8, isRead, isNaming, isAddressOf, isFirstByte, Next, Anything, AddressByte, ChoiceByte, goesOn, isTurnAt, isTurn}
+use Rattle.turns.specs.Turn.{Turn, isStart, isStop, isSent, isF8, isRead, isNaming, isAddressOf, isFirstByte, Next, Anything, AddressByte, ChoiceByte, isRestOfTurn, isTurnAt, isTurn}
 use Rattle.turns.specs.Shuffle.{areTurns, turnsOf}
 use Rattle.turns.specs.Alone.{alone, renamed, ownTurn, ownTurns}
 use Rattle.turns.specs.Undisturbed.{Turns}
@@ -33,11 +33,11 @@ read-renamed word is = let kind : kindOf word ≡ 4 = eqb-true _ _ (and-left _ _
 
 module _ (place : Place) where
   abbrev On : Next → List ℕ → Type 0
-  On next events = goesOn place 0 next (map renamed events) ≡ true
+  On next events = isRestOfTurn place 0 next (map renamed events) ≡ true
 
   -- an event between that is neither Start nor Stop
-  between : (word : ℕ) (more : List ℕ) → 2 < kindOf word → (isSent word || (isRead word || isNaming 0 word)) ≡ true → goesOn place 0 Anything more ≡ true → goesOn place 0 Anything (word ∷ more) ≡ true
-  unfolding goesOn
+  between : (word : ℕ) (more : List ℕ) → 2 < kindOf word → (isSent word || (isRead word || isNaming 0 word)) ≡ true → isRestOfTurn place 0 Anything more ≡ true → isRestOfTurn place 0 Anything (word ∷ more) ≡ true
+  unfolding isRestOfTurn
   between word more kind is goes =
       rw (ne-eqb word (wordOf 2 0) (λ same. omega (arith, kind, same)), ne-eqb word (wordOf 1 0) (λ same. omega (arith, kind, same))) (and-both _ _ is goes)
 
@@ -46,11 +46,11 @@ module _ (place : Place) where
   kept word more same kind is later = rw same (between word (map renamed more) kind is later)
 
   stop-on : (word : ℕ) → isStop word ≡ true → On Anything (word ∷ [])
-  unfolding goesOn
+  unfolding isRestOfTurn
   stop-on word is = rw (stop-renamed word is, is)
 
   start-on : (word : ℕ) (more : List ℕ) → isStart word ≡ true → On AddressByte more → On Anything (word ∷ more)
-  unfolding goesOn
+  unfolding isRestOfTurn
   start-on word more is later = let same : word ≡ wordOf 1 0 = eqb-true _ _ is in rw same later
 
   sent-on : (word : ℕ) (more : List ℕ) → isSent word ≡ true → On Anything more → On Anything (word ∷ more)
@@ -78,15 +78,15 @@ module _ (place : Place) where
         rw same (between only (map renamed more) kind (or-right (isSent only) _ (or-right (isRead only) _ naming)) later)
 
     first-on : (word : ℕ) (more : List ℕ) → isF8 word ≡ false → isSent word ≡ true → isFirstByte place (valueOf word) ≡ true → On Anything more → On AddressByte (word ∷ more)
-    unfolding goesOn
+    unfolding isRestOfTurn
     first-on word more other is first later = rw (sent-renamed word is, other) (and-both _ _ is (and-both _ _ first later))
 
     f8-on : (word : ℕ) (more : List ℕ) → isF8 word ≡ true → On ChoiceByte more → On AddressByte (word ∷ more)
-    unfolding goesOn
+    unfolding isRestOfTurn
     f8-on word more is later = let same : word ≡ wordOf 3 0xF8 = eqb-true _ _ is in rw same later
 
     choice-on : (word : ℕ) (more : List ℕ) → isSent word ≡ true → isAddressOf 0b1010 place (valueOf word) ≡ true → On Anything more → On ChoiceByte (word ∷ more)
-    unfolding goesOn
+    unfolding isRestOfTurn
     choice-on word more is named later = rw (sent-renamed word is) (and-both _ _ is (and-both _ _ named later))
 
     each-on : Cases place k On

@@ -4,7 +4,7 @@ use Prim.Native.Nat.{ℕ, _%_}
 use mathlib.Core.Bool.{Bool, true, false, cond, not, _&&_, _||_, false≢true}
 use mathlib.Core.List.{List}
 use mathlib.Core.Path.{_≡_, refl}
-use Rattle.base.proofs.test.Laws.{either}
+use Rattle.base.proofs.logic.Laws.{either}
 use Rattle.base.proofs.Fold.{and-left, and-right, or-right}
 use Rattle.load.specs.declared.Load.{Load}
 use Rattle.load.specs.Load as load
@@ -18,9 +18,9 @@ use Rattle.control.specs.declared.phase.Data.the-variants.{ToArray, ToSecurity,
 use Rattle.control.specs.declared.phase.Came.{Came}
 use Rattle.control.specs.declared.phase.Came.the-variants.{Zero, One, Two, Three, More}
 use Rattle.control.specs.Phase.{isBusy, isSending, isTaking, awaitsAddress}
-use Rattle.control.specs.Control.{inPhase, lockedNow, configured}
-use Rattle.control.specs.Exchange.{ended, started}
-use Rattle.control.specs.Bits.{lock}
+use Rattle.control.specs.Control.{inPhase, idlockedNow, configured}
+use Rattle.control.specs.Exchange.{standbyNow, busyNow}
+use Rattle.control.specs.Bits.{configlock}
 use Rattle.configuration.specs.Configuration.{confirms, stopConfiguration}
 use Rattle.addressing.specs.Address.{callOf, takeAddress}
 use Rattle.taking.specs.Taking as taking
@@ -39,26 +39,26 @@ module _ (held : Load) where
   abbrev Rests : Control → Type 0
   Rests c = isAtRest (record { control = c; load = load.emptied held }) ≡ true
 
-  ended-rests : (c : Control) → Rests (ended c)
-  ended-rests c = rw (within-emptied 0 held)
+  standby-now-rests : (c : Control) → Rests (standbyNow c)
+  standby-now-rests c = rw (within-emptied 0 held)
 
-  started-rests : (c : Control) → Rests (started c)
-  started-rests c = rw (within-emptied 0 held)
+  busy-now-rests : (c : Control) → Rests (busyNow c)
+  busy-now-rests c = rw (within-emptied 0 held)
 
   came-rests : (came : Came) (c : Control) → Rests (stopConfiguration came c)
-  came-rests Zero c = ended-rests c
-  came-rests (One first) c = ended-rests c
-  came-rests (Two first second) c = ended-rests c
+  came-rests Zero c = standby-now-rests c
+  came-rests (One first) c = standby-now-rests c
+  came-rests (Two first second) c = standby-now-rests c
   came-rests (Three first second third) c =
-      either Rests (confirms first third && not (lock c)) _ _ (started-rests (configured (first % 4) second c)) (ended-rests c)
-  came-rests More c = ended-rests c
+      either Rests (confirms first third && not (configlock c)) _ _ (busy-now-rests (configured (first % 4) second c)) (standby-now-rests c)
+  came-rests More c = standby-now-rests c
 
   data-rests : (kind : Data) (c : Control) (a s : List ℕ) → Rests (stopData kind c held a s .0)
-  data-rests ToArray c a s = either (λ (x : Control × List ℕ). Rests (x .0)) (writesArray c held) _ _ (started-rests c) (ended-rests c)
-  data-rests ToSecurity c a s = either (λ (x : Control × List ℕ). Rests (x .0)) (writesSecurity c held) _ _ (started-rests c) (ended-rests c)
+  data-rests ToArray c a s = either (λ (x : Control × List ℕ). Rests (x .0)) (writesArray c held) _ _ (busy-now-rests c) (standby-now-rests c)
+  data-rests ToSecurity c a s = either (λ (x : Control × List ℕ). Rests (x .0)) (writesSecurity c held) _ _ (busy-now-rests c) (standby-now-rests c)
   data-rests (ToConfiguration came) c a s = came-rests came c
-  data-rests (ToLock some) c a s = either Rests (some && not (c .locked)) _ _ (started-rests (lockedNow c)) (ended-rests c)
-  data-rests ToNowhere c a s = ended-rests c
+  data-rests (ToLock some) c a s = either Rests (some && not (c .idlocked)) _ _ (busy-now-rests (idlockedNow c)) (standby-now-rests c)
+  data-rests ToNowhere c a s = standby-now-rests c
 
 -- a busy chip takes no notice, but it is not chosen and holds no load
 pub stop-rests : (c : Chip) (a s : List ℕ) → wellFormed c ≡ true → isAtRest (step c a s Stop .0 .chip) ≡ true
@@ -73,8 +73,8 @@ stop-rests c a s formed = go (c .control .phase) refl
         and-right (unusedBitsClear (c .control) && placeFits (c .control .phase)) _
         (and-right (isSetUp (c .control) && countersFit (c .control)) _ (and-left _ _ formed))
 
-    over : Rests (c .load) (ended (c .control))
-    over = ended-rests (c .load) (c .control)
+    over : Rests (c .load) (standbyNow (c .control))
+    over = standby-now-rests (c .load) (c .control)
 
     go : (phase : Phase) → c .control .phase ≡ phase → isAtRest (step c a s Stop .0 .chip) ≡ true
     go Standby is = rw is over

@@ -10,8 +10,8 @@ use Rattle.refusal.specs.declared.Refusal.the-variants.{Clash}
 use Rattle.refusal.specs.declared.Verdict.{Verdict}
 use Rattle.refusal.specs.declared.Verdict.the-variants.{Passed, Refused}
 use Rattle.refusal.specs.Checks.{firstOf}
-use Rattle.order.specs.declared.Order.{Order}
-use Rattle.order.specs.Order.{eventOf}
+use Rattle.decode.specs.declared.Addressed.{Addressed}
+use Rattle.decode.specs.Decode.{eventOf}
 use Rattle.lineup.specs.Chips.{chipAt, placesOf}
 use Rattle.line.specs.Line.{clash}
 use Rattle.bus.specs.Step.{eventChecks, refused, played, stepBy, event, step}
@@ -26,7 +26,7 @@ use Rattle.turns.specs.Alone.{alone, onlyBus}
 use Rattle.turns.proofs.Asked.{Legal}
 use Rattle.turns.proofs.Entering.{Entering}
 
-module _ (world : World) (word : ℕ) (order : Order) (e : Entering world) (legal : Legal (world .0 .count) word order) where
+module _ (world : World) (word : ℕ) (addressed : Addressed) (e : Entering world) (legal : Legal (world .0 .count) word addressed) where
   abbrev count : ℕ
   count = world .0 .count
 
@@ -34,7 +34,7 @@ module _ (world : World) (word : ℕ) (order : Order) (e : Entering world) (lega
   chips = world .0 .chips
 
   abbrev clashes : Bool
-  clashes = clash (eventOf order) count chips
+  clashes = clash (eventOf addressed) count chips
 
   entry : Entered (world .0) (world .1) (world .2)
   entry = entered (world .0) (world .1) (world .2) (e .enters)
@@ -49,14 +49,14 @@ module _ (world : World) (word : ℕ) (order : Order) (e : Entering world) (lega
       ∙ ap (λ (v : Verdict). stepBy v (world .0) (world .1) (world .2) word) verdict
       ∙ ap (λ (c : Bool). stepBy (cond c (Refused Clash) Passed) (world .0) (world .1) (world .2) word) is
 
-  pub step-clashes : clash (eventOf order) (world .0 .count) (world .0 .chips) ≡ true → stepped step world word ≡ refused Clash (world .0) (world .1) (world .2)
+  pub step-clashes : clash (eventOf addressed) (world .0 .count) (world .0 .chips) ≡ true → stepped step world word ≡ refused Clash (world .0) (world .1) (world .2)
   step-clashes is = by-clash true is
 
-  pub step-plays : clash (eventOf order) (world .0 .count) (world .0 .chips) ≡ false → stepped step world word ≡ played order (world .0) (world .1) (world .2)
-  step-plays is = by-clash false is ∙ ap (λ (o : Order). played o (world .0) (world .1) (world .2)) (legal .2)
+  pub step-plays : clash (eventOf addressed) (world .0 .count) (world .0 .chips) ≡ false → stepped step world word ≡ played addressed (world .0) (world .1) (world .2)
+  step-plays is = by-clash false is ∙ ap (λ (o : Addressed). played o (world .0) (world .1) (world .2)) (legal .2)
 
   -- what holds of a world as it is, and as it is played, holds after a step
-  led : (P : World → Type 0) → P world → P (ledTo (played order (world .0) (world .1) (world .2))) → P (afterOne step world word)
+  led : (P : World → Type 0) → P world → P (ledTo (played addressed (world .0) (world .1) (world .2))) → P (afterOne step world word)
   led P stays moves = go clashes refl
     where
       go : (b : Bool) → clashes ≡ b → P (afterOne step world word)
@@ -76,17 +76,17 @@ module _ (world : World) (word : ℕ) (order : Order) (e : Entering world) (lega
   unfolding played
   rest-kept i past =
       led (λ (next : World). chipAt (next .0 .chips) i ≡ chipAt chips i) refl
-      (the-rest-stays order count chips (world .1) (world .2) (has-four (e .typed)) (entry .array-fits) (entry .security-fits) i (omega (arith, entry .all-placed)))
+      (the-rest-stays addressed count chips (world .1) (world .2) (has-four (e .typed)) (entry .array-fits) (entry .security-fits) i (omega (arith, entry .all-placed)))
 
   -- played, each chip has made its own step
-  pub each-moves : clash (eventOf order) (world .0 .count) (world .0 .chips) ≡ false → (i : ℕ) → i < world .0 .count
-      → let mine = own order (world .0 .chips) (world .1) (world .2) i in alone i (afterOne step world word) ≡ (onlyBus (mine .0 .chip), mine .1, mine .2)
+  pub each-moves : clash (eventOf addressed) (world .0 .count) (world .0 .chips) ≡ false → (i : ℕ) → i < world .0 .count
+      → let mine = own addressed (world .0 .chips) (world .1) (world .2) i in alone i (afterOne step world word) ≡ (onlyBus (mine .0 .chip), mine .1, mine .2)
   unfolding played
   each-moves is i below =
-      let (chip-is, array-is, security-is) = each-chip-takes-its-own order count chips (world .1) (world .2) (has-four (e .typed)) (entry .array-fits) (entry .security-fits) i (omega (arith, entry .all-placed)) in
+      let (chip-is, array-is, security-is) = each-chip-takes-its-own addressed count chips (world .1) (world .2) (has-four (e .typed)) (entry .array-fits) (entry .security-fits) i (omega (arith, entry .all-placed)) in
       ap (λ (next : Made). alone i (ledTo next)) (step-plays is)
       ∙ rw (
-        places-stay order count chips (world .1) (world .2) (has-four (e .typed)) (entry .array-fits) (entry .security-fits),
+        places-stay addressed count chips (world .1) (world .2) (has-four (e .typed)) (entry .array-fits) (entry .security-fits),
         chip-is,
         array-is,
         security-is,

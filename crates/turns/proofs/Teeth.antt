@@ -6,7 +6,7 @@ use mathlib.Core.Bool.{true}
 use mathlib.Core.List.{List, [], _∷_, map}
 use mathlib.Core.Path.{_≡_, _∙_, refl, sym, ap}
 use borrow.Author.Tests.{eqb-false, ne-eqb}
-use Rattle.base.proofs.test.Laws.{either}
+use Rattle.base.proofs.logic.Laws.{either}
 use Rattle.load.specs.Load as load
 use Rattle.wellformed.specs.Wellformed as one-chip
 use Rattle.board.specs.Board.{boardVerdict}
@@ -65,7 +65,7 @@ one-counter-ends-apart agree =
     let other : List Turn = secondAddressed ∷ firstAddressed ∷ [] in
     let ends = computed shared shared-keeps (pair free free) (idling typed ready .entering) in
     let same = sym (ends (eventsOf one) .0) ∙ agree (pair free free) one other typed ready refl (swapped _ _) ∙ ends (eventsOf other) .0 in
-    eqb-false _ _ refl (ap (λ (world : World). controlAt (world .0 .chips) 0 .array) same)
+    eqb-false _ _ refl (ap (λ (world : World). controlAt (world .0 .chips) 0 .arraycounter) same)
 
 -- F8h in a turn of the first chip
 abbrev calls : Turn

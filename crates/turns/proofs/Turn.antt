@@ -9,10 +9,10 @@ use Rattle.control.specs.declared.phase.Phase.{Phase}
 use Rattle.chip.specs.declared.event.Event.{Event}
 use Rattle.chip.specs.declared.event.Event.the-variants.{Start, Stop, Sent, Read, Wp, CycleOver, PowerUp}
 use Rattle.board.specs.declared.Place.{Place}
-use Rattle.order.specs.declared.Order.{Order}
-use Rattle.order.specs.declared.Order.the-variants.{ToAll, ToOne}
-use Rattle.order.specs.Order.{valueOf, reaches}
-use Rattle.order.specs.Hearing.{clashesWith}
+use Rattle.decode.specs.declared.Addressed.{Addressed}
+use Rattle.decode.specs.declared.Addressed.the-variants.{ToAll, ToOne}
+use Rattle.decode.specs.Decode.{valueOf, reaches}
+use Rattle.decode.specs.Hearing.{clashesWith}
 use Rattle.lineup.specs.Chips.{chipAt, controlAt}
 use Rattle.keeping.proofs.Beside.{isNamed}
 use Rattle.bus.specs.Step.{step}
@@ -77,11 +77,11 @@ module _ (k : ℕ) (place : Place) (began : World) (b : Others k place began) wh
         (start-heeds (chipAt (now .0 .chips) k) (alone k now .1) (alone k now .2))
 
     -- between, refused or not
-    between-leads : Leads Anything more → (started : Bool) (now : World) (d : During k Anything began now) (order : Order) → Asked (now .0 .count) word order → reaches order k ≡ true
-        → ((j : ℕ) → j < began .0 .count → (j ≡ k → ⊥) → SitsThrough order Anything Anything silent j began)
+    between-leads : Leads Anything more → (started : Bool) (now : World) (d : During k Anything began now) (addressed : Addressed) → Asked (now .0 .count) word addressed → reaches addressed k ≡ true
+        → ((j : ℕ) → j < began .0 .count → (j ≡ k → ⊥) → SitsThrough addressed Anything Anything silent j began)
         → Went k started (word ∷ more) began now
-    between-leads later started now d order asked reached sit =
-        event-goes k Anything Anything began now (b .below) d word order asked reached silent sit started
+    between-leads later started now d addressed asked reached sit =
+        event-goes k Anything Anything began now (b .below) d word addressed asked reached silent sit started
         (λ none c. refl)
         more
         (later (isStart word) (afterOne step now word) tt)

@@ -14,7 +14,7 @@ use Rattle.load.specs.Load as load
 use Rattle.control.specs.declared.Control.{Control}
 use Rattle.control.specs.declared.phase.Phase.{Phase}
 use Rattle.control.specs.declared.phase.Phase.the-variants.{Standby, Busy}
-use Rattle.control.specs.Control.{fresh, inPhase, arrayAt, wpAt}
+use Rattle.control.specs.Control.{fresh, inPhase, arraycounterAt, wpAt}
 use Rattle.control.proofs.Control as controls
 use Rattle.control.proofs.phase.Phase as phases
 use Rattle.chip.specs.declared.Chip.{Chip}
@@ -88,7 +88,7 @@ pub empty-typed : ChipTyped emptyChip
 empty-typed = unloaded-typed (fresh 0 0) (fresh-typed 0 0 (lit< tt) (lit< tt) false Standby standby-typed)
 
 -- with its array counter elsewhere
-pub counter-typed : (c : Chip) (at : ℕ) → at < 2 ^ 32 → ChipTyped c → ChipTyped (record { control = arrayAt at (c .control); load = c .load })
+pub counter-typed : (c : Chip) (at : ℕ) → at < 2 ^ 32 → ChipTyped c → ChipTyped (record { control = arraycounterAt at (c .control); load = c .load })
 counter-typed c at fits typed =
     let f = typed .is .1 .1 .0 .1 .1 in
     record {

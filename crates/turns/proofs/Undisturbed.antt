@@ -18,7 +18,7 @@ use Rattle.turns.specs.Turn.{Turn, isTurn}
 use Rattle.turns.specs.Shuffle.{beganAt, areTurns, eventsOf, Shuffle, turnOf, answersOf, answerOf, isExcepted}
 use Rattle.turns.specs.Alone.{alone, ownTurn, ownTurns}
 use Rattle.turns.specs.Playing.{ending}
-use Rattle.turns.specs.Benches.{ours}
+use Rattle.turns.specs.Benches.{ourBench}
 use Rattle.turns.specs.Undisturbed.{Turns, AsAlone, Undisturbed}
 use Rattle.turns.proofs.Entering.{Idling, idling}
 use Rattle.turns.proofs.Lists.{answer-at, excepted-inside, excepted-at, shuffle-turns}
@@ -74,7 +74,7 @@ module _ (world : World) (turns others : List Turn) (waits : Idling world) (are 
             no-answers (world .0 .count) (placesOf (world .0 .chips)) k others (answersTo step world (eventsOf others)) are-too (omega arith),
           )
 
-pub undisturbed : Undisturbed ours
+pub undisturbed : Undisturbed ourBench
 undisturbed =
     record {
       shuffled = λ world turns others typed ready are shuffle.

@@ -6,7 +6,7 @@ use mathlib.Core.List.{List, [], _∷_, map}
 use lib.Dec.{leb}
 use Rattle.base.specs.Word.{wordOf}
 use Rattle.chip.specs.declared.Chip.{Chip}
-use Rattle.order.specs.Order.{kindOf}
+use Rattle.decode.specs.Decode.{kindOf}
 use Rattle.lineup.specs.Chips.{chipAt, placesOf}
 use Rattle.line.specs.Line.{arrayShare, securityShare}
 use Rattle.bus.specs.declared.Bus.{Bus}

@@ -5,7 +5,7 @@ use mathlib.Core.List.{List, map}
 use lib.Dec.{eqb}
 use Rattle.base.specs.Fold.{upTo}
 use Rattle.parts.specs.Part.{geometryOf}
-use Rattle.control.specs.Control.{arrayAt}
+use Rattle.control.specs.Control.{arraycounterAt}
 use Rattle.chip.specs.declared.Chip.{Chip}
 use Rattle.lineup.specs.Chips.{controlAt}
 use Rattle.bus.specs.Step.{step}
@@ -23,11 +23,11 @@ with fault bench bus array security word = fault (bus, array, security) word (be
 -- the line's counter after an event: that of a chip whose counter the event has moved, else that of the first
 abbrev pub lineCounter : List Chip → List Chip → ℕ
 lineCounter before now =
-    upTo (λ (i at : ℕ). let mine = controlAt now i .array in cond (eqb (controlAt before i .array) mine) at mine) 4 (controlAt now 0 .array)
+    upTo (λ (i at : ℕ). let mine = controlAt now i .arraycounter in cond (eqb (controlAt before i .arraycounter) mine) at mine) 4 (controlAt now 0 .arraycounter)
 
 -- a chip with its array counter elsewhere, modulo its array
 abbrev pub movedTo : ℕ → Chip → Chip
-movedTo at c = record { control = arrayAt (at % geometryOf (c .control .part) .array) (c .control); load = c .load }
+movedTo at c = record { control = arraycounterAt (at % geometryOf (c .control .part) .array) (c .control); load = c .load }
 
 -- one counter for the line: after every event all chips have it
 abbrev pub shared : Fault
@@ -54,5 +54,5 @@ abbrev pub ownF8 : Bench → Bench
 ownF8 bench = with (forFirst bench) bench
 
 -- ours is the bus's step
-abbrev pub ours : Bench
-ours = step
+abbrev pub ourBench : Bench
+ourBench = step

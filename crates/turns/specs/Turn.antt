@@ -11,7 +11,7 @@ use Rattle.parts.specs.Part.{geometryOf}
 use Rattle.parts.specs.Address.{answers}
 use Rattle.board.specs.declared.Place.{Place}
 use Rattle.board.specs.Place.{placeAt}
-use Rattle.order.specs.Order.{kindOf, valueOf}
+use Rattle.decode.specs.Decode.{kindOf, valueOf}
 
 -- whose it is, and its events: the label belongs to the turn, since 0100 03F9 0200 could be anybody's
 pub record Turn : Type 0 where
@@ -52,20 +52,20 @@ pub data Next : Type 0 where
   Anything AddressByte ChoiceByte : Next
 
 -- the rest of a run, up to its only Stop
-unfoldable pub goesOn : Place → ℕ → Next → List ℕ → Bool
-goesOn place k next [] = false
-goesOn place k Anything (word ∷ more) =
+unfoldable pub isRestOfTurn : Place → ℕ → Next → List ℕ → Bool
+isRestOfTurn place k next [] = false
+isRestOfTurn place k Anything (word ∷ more) =
     cond (isStop word) (eqb (length more) 0)
-    (cond (isStart word) (goesOn place k AddressByte more)
-    ((isSent word || (isRead word || isNaming k word)) && goesOn place k Anything more))
-goesOn place k AddressByte (word ∷ more) =
-    cond (isF8 word) (goesOn place k ChoiceByte more)
-    (isSent word && (isFirstByte place (valueOf word) && goesOn place k Anything more))
-goesOn place k ChoiceByte (word ∷ more) = isSent word && (isAddressOf 0b1010 place (valueOf word) && goesOn place k Anything more)
+    (cond (isStart word) (isRestOfTurn place k AddressByte more)
+    ((isSent word || (isRead word || isNaming k word)) && isRestOfTurn place k Anything more))
+isRestOfTurn place k AddressByte (word ∷ more) =
+    cond (isF8 word) (isRestOfTurn place k ChoiceByte more)
+    (isSent word && (isFirstByte place (valueOf word) && isRestOfTurn place k Anything more))
+isRestOfTurn place k ChoiceByte (word ∷ more) = isSent word && (isAddressOf 0b1010 place (valueOf word) && isRestOfTurn place k Anything more)
 
 unfoldable pub isTurnAt : Place → ℕ → List ℕ → Bool
 isTurnAt place k [] = false
-isTurnAt place k (word ∷ more) = cond (isStart word) (goesOn place k AddressByte more) (isNaming k word && eqb (length more) 0)
+isTurnAt place k (word ∷ more) = cond (isStart word) (isRestOfTurn place k AddressByte more) (isNaming k word && eqb (length more) 0)
 
 -- a turn of a chip that is on the board
 abbrev pub isTurn : ℕ → List Place → Turn → Bool

@@ -18,7 +18,7 @@ isSetUp c = isPart (c .part) && ltb (c .strap) (geometryOf (c .part) .straps)
 
 -- every counter is inside its region
 abbrev pub countersFit : Control → Bool
-countersFit c = ltb (c .array) (geometryOf (c .part) .array) && ltb (c .security) (geometryOf (c .part) .security)
+countersFit c = ltb (c .arraycounter) (geometryOf (c .part) .array) && ltb (c .securitycounter) (geometryOf (c .part) .security)
 
 -- and so is the place in the ID: one of the three bytes, or the end
 abbrev pub idPlaceFits : Source → Bool

@@ -1,6 +1,6 @@
 // Two chips on one line (paper, "Well formed means").
-use base::test::and;
-use base::test::or;
+use base::logic::and;
+use base::logic::or;
 use control::Control;
 use control::phase::awaits_address;
 use control::phase::is_awaiting;

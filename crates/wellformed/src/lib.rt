@@ -1,7 +1,7 @@
 // A chip's own part of what makes a state well formed (paper, "Well formed means").
 pub mod beside;
 
-use base::test::and;
+use base::logic::and;
 use chip::Chip;
 use control::Control;
 use control::phase::Phase;
@@ -57,7 +57,7 @@ fn counters_fit(c: Control) -> bool
     ensures { λ r. ⌜ r ≡ countersFit c ⌝ }
 {
     let g = geometry_of(c.part);
-    and(c.array < g.array, c.security < g.security)
+    and(c.arraycounter < g.array, c.securitycounter < g.security)
 }
 
 fn busy_not_chosen(c: Control) -> bool

@@ -1,7 +1,7 @@
 -- What the checks say decides.
 use Rattle.refusal.specs.declared.Verdict.{Verdict}
 use Rattle.bus.specs.Step.{stepBy, event}
-use Rattle.order.specs.declared.Order.{Order}
+use Rattle.decode.specs.declared.Addressed.{Addressed}
 use Rattle.bus.specs.Step.{played}
 use mathlib.Core.Path.{_∙_, ap, sym}
 use borrow.Author.Needs.{needs}
@@ -17,8 +17,8 @@ enum-known-verdict c = search needs
 enum-told : tie.Need-enum-told
 enum-told c = search needs
 
-order-of-requires : tie.Need-order-of-requires
-order-of-requires c κs = search needs
+addressed-of-requires : tie.Need-addressed-of-requires
+addressed-of-requires c κs = search needs
 
 played-requires : tie.Need-played-requires
 played-requires c κs = search needs
@@ -38,7 +38,7 @@ returns-2 : tie.Need-returns-2
 unfolding event
 returns-2 c = let a = c .before .before .before .before .before .before .before .before .before .before .before .before .before .args in
     c .before .before .before .before .played .ensures
-    ∙ ap (λ (o : Order). played o (a .bus) (a .array .now) (a .security .now)) (c .before .before .before .before .before .before .before .order-of .ensures)
+    ∙ ap (λ (o : Addressed). played o (a .bus) (a .array .now) (a .security .now)) (c .before .before .before .before .before .before .before .addressed-of .ensures)
     ∙ ap (λ (v : Verdict). stepBy v (a .bus) (a .array .now) (a .security .now) (a .word)) (sym (c .before .before .before .before .before .before .before .before .enum-told .given .1) ∙ c .before .before .before .before .before .before .before .before .before .before .event-verdict .ensures)
 
 pub event-spec : {M : Type 1} → statement M
@@ -48,7 +48,7 @@ event-spec =
     event-verdict-requires
     enum-known-verdict
     enum-told
-    order-of-requires
+    addressed-of-requires
     played-requires
     returns
     same-length

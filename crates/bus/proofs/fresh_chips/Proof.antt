@@ -1,4 +1,4 @@
--- Each turn sets a fresh chip.
+-- Each iteration sets a fresh chip.
 use Rattle.board.proofs.Laws.{placed-most}
 use Rattle.chip.specs.declared.Chip.{Chip}
 use Rattle.bus.specs.Setup.{freshChips}

@@ -1,6 +1,6 @@
 -- The line's play, and the reply to what was said.
 use Rattle.bus.specs.Step.{done, played}
-use Rattle.order.specs.Order.{eventOf}
+use Rattle.decode.specs.Decode.{eventOf}
 use mathlib.Core.Path.{ap}
 use borrow.Author.Needs.{needs}
 use Rattle.bus.proofs.played.Statement.{statement}
@@ -23,7 +23,7 @@ same-length-2 c = search needs
 
 returns : tie.Need-returns
 unfolding played
-returns c = rw (c .line-reply .ensures, c .before .event-of .ensures) (ap (done (eventOf (c .before .before .before .before .before .before .before .before .before .before .before .before .before .args .order)) (c .before .before .before .before .before .before .before .before .before .before .before .before .before .args .bus .count)) (c .before .before .before .before .before .before .before .play .ensures))
+returns c = rw (c .line-reply .ensures, c .before .event-of .ensures) (ap (done (eventOf (c .before .before .before .before .before .before .before .before .before .before .before .before .before .args .addressed)) (c .before .before .before .before .before .before .before .before .before .before .before .before .before .args .bus .count)) (c .before .before .before .before .before .before .before .play .ensures))
 
 pub played-spec : {M : Type 1} → statement M
 played-spec =

@@ -1,5 +1,5 @@
--- Each turn of the loop is one event, with its answer noted.
-use Rattle.bus.specs.Run.{noted, eventAt, runUpTo}
+-- Each iteration is one event, with its answer noted.
+use Rattle.bus.specs.Run.{noted, runEvent, runUpTo}
 use lib.ListN.{length, length-set}
 use borrow.Author.Needs.{needs}
 use native.Mathlib.Omega.{arith}
@@ -11,7 +11,7 @@ use Rattle.bus.proofs.run_all.Statement.{statement}
 use Rattle.bus.proofs.run_all.Tie as tie
 
 abbrev Inv-loop : tie.InvT-loop
-Inv-loop array₀ security₀ events answers₀ next₀ i₀ array security answers next i = ((next, array, security, answers) ≡ upTo (eventAt events) i (next₀, array₀, security₀, answers₀)) × (length array ≡ length array₀) × (length security ≡ length security₀) × (length answers ≡ length answers₀) × (i ≤ length events)
+Inv-loop array₀ security₀ events answers₀ next₀ i₀ array security answers next i = ((next, array, security, answers) ≡ upTo (runEvent events) i (next₀, array₀, security₀, answers₀)) × (length array ≡ length array₀) × (length security ≡ length security₀) × (length answers ≡ length answers₀) × (i ≤ length events)
 
 abbrev μ-loop : tie.MeasureT-loop
 μ-loop array₀ security₀ events answers₀ next₀ i₀ array security answers next i = length events - i
@@ -47,7 +47,7 @@ loop-less c = omega arith
 loop-again : tie.Need-loop-again Inv-loop μ-loop
 loop-again c = let l = c .before .before .before .before .before .before .before .before .before .before .before .loop in
     let e = c .before .before .before .before .before .before .event in (
-      up-more (eventAt (c .before .before .before .before .before .before .before .before .before .before .before .before .before .before .before .before .args .events .now)) (l .i) _ (l .inv .0) (rw (c .answer-word .ensures) (ap (noted (l .i) (l .answers)) (e .ensures))),
+      up-more (runEvent (c .before .before .before .before .before .before .before .before .before .before .before .before .before .before .before .before .args .events .now)) (l .i) _ (l .inv .0) (rw (c .answer-word .ensures) (ap (noted (l .i) (l .answers)) (e .ensures))),
       e .kept .1 .0 ∙ l .inv .1,
       e .kept .1 .1 .0 ∙ l .inv .2,
       length-set (l .answers) (l .i) _ ∙ l .inv .3,
@@ -65,7 +65,7 @@ same-length-3 c = c .before .loop .inv .3
 
 returns : tie.Need-returns Inv-loop μ-loop
 unfolding runUpTo
-returns c = up-end (eventAt (c .before .before .before .before .before .before .args .events .now)) _ (omega arith) (c .before .loop .inv .0)
+returns c = up-end (runEvent (c .before .before .before .before .before .before .args .events .now)) _ (omega arith) (c .before .loop .inv .0)
 
 pub run-all-spec : {M : Type 1} → statement M
 run-all-spec =

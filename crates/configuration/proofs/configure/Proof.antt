@@ -16,17 +16,17 @@ and-requires c κs = search needs
 configured-requires : tie.Need-configured-requires
 configured-requires c κs = search needs
 
-started-requires : tie.Need-started-requires
-started-requires c κs = search needs
+busy-now-requires : tie.Need-busy-now-requires
+busy-now-requires c κs = search needs
 
-ended-requires : tie.Need-ended-requires
-ended-requires c κs = search needs
+standby-now-requires : tie.Need-standby-now-requires
+standby-now-requires c κs = search needs
 
 returns : tie.Need-returns
-returns c = rw (← c .before .before .before .before .confirms .ensures, ← c .before .before .before .before .before .bit-of .ensures, sym (c .before .before .before .and .ensures) ∙ c .before .before .if1 .taken, c .started .ensures, c .before .configured .ensures)
+returns c = rw (← c .before .before .before .before .confirms .ensures, ← c .before .before .before .before .before .bit-of .ensures, sym (c .before .before .before .and .ensures) ∙ c .before .before .if1 .taken, c .busy-now .ensures, c .before .configured .ensures)
 
 returns-2 : tie.Need-returns-2
-returns-2 c = rw (← c .before .before .before .confirms .ensures, ← c .before .before .before .before .bit-of .ensures, sym (c .before .before .and .ensures) ∙ c .before .if1 .left, c .ended .ensures)
+returns-2 c = rw (← c .before .before .before .confirms .ensures, ← c .before .before .before .before .bit-of .ensures, sym (c .before .before .and .ensures) ∙ c .before .if1 .left, c .standby-now .ensures)
 
 pub configure-spec : {M : Type 1} → statement M
 configure-spec =
@@ -36,7 +36,7 @@ configure-spec =
     confirms-requires
     and-requires
     configured-requires
-    started-requires
-    ended-requires
+    busy-now-requires
+    standby-now-requires
     returns
     returns-2)

@@ -37,12 +37,12 @@ use denote.Exit.{yes}
 use Rattle.bus.specs.declared.Bus.{Bus}
 use Rattle.bus.proofs.Bus as T
 use Rattle.bus.proofs.Bus.Laws as T′
-use Rattle.lent.proofs.Lends.{under, local, Slice, HeldSlice, Last, lend-local, local-back, lend-slice, slice-back, as-long, asks, answers}
-use Rattle.lent.proofs.Locals.{freed}
+use Rattle.inplace.proofs.Lends.{under, local, Slice, HeldSlice, Last, lend-local, local-back, lend-slice, slice-back, as-long, asks, answers}
+use Rattle.inplace.proofs.Locals.{freed}
 use Rattle.conversation.specs.declared.Heard.{Heard}
 use Rattle.conversation.specs.Talk.{Left, converse}
 use Rattle.conversation.specs.Tape.{textOn}
-use Rattle.conversation.specs.Turn.{finished}
+use Rattle.conversation.specs.Pending.{finished}
 use Rattle.conversation.specs.Whole.{finishedBy, answerAll}
 use Rattle.conversation.proofs.Heard as O
 use Rattle.conversation.proofs.Heard.Laws as O′
@@ -50,10 +50,10 @@ use Rattle.conversation.proofs.converse as talk
 use Rattle.conversation.proofs.converse.Symbol as talk-def
 use Rattle.conversation.proofs.converse.Symbol.{name as #conversation·converse}
 use Rattle.conversation.proofs.converse.Met as talk-thm
-use Rattle.conversation.proofs.turn.finish as finish
-use Rattle.conversation.proofs.turn.finish.Symbol as finish-def
-use Rattle.conversation.proofs.turn.finish.Symbol.{name as #conversation·turn·finish}
-use Rattle.conversation.proofs.turn.finish.Met as finish-thm
+use Rattle.conversation.proofs.pending.finish as finish
+use Rattle.conversation.proofs.pending.finish.Symbol as finish-def
+use Rattle.conversation.proofs.pending.finish.Symbol.{name as #conversation·pending·finish}
+use Rattle.conversation.proofs.pending.finish.Met as finish-thm
 use Rattle.conversation.proofs.answer_all.Key.{name as #conversation·answer-all}
 use Rattle.conversation.proofs.answer_all as answer-all
 use Rattle.conversation.proofs.answer_all.Statement as stated
@@ -154,8 +154,8 @@ module _ {M : Type 1} (𝓤 : URA M) (H : Heap 𝓤) (A : Atoms 𝓤) (W : Given
                 (((ν₀ ∷ [], (κ₁, (κ₂, (κ₃, (ν₄ ∷ [], tt))))), (fullShare, (q₁, (q₂, (q₃, (fullShare, tt))))), tt, (local l bus δ₀, (x₁, (x₂, (x₃, (filled, (under x₄ δ₄, tt)))))), (vptr l 0 ∷ [], (sliced x₁ ∷ [], (sliced x₂ ∷ [], (sliced x₃ ∷ [], (vint w64 filled ∷ [], (sliced x₄ ∷ [], tt))))))), tt)
 
         -- the machine has what was heard as u
-        finishes : Triple 𝓤 (C #conversation·turn·finish) Finish → (it : Heard) (u : Val) (said : List ℕ) → Is O.the-row it (u ∷ [])
-            → ent 𝓤 (⋆ 𝓤 H A (‵ Tape ∷ ‵ (Buffer said) ∷ [])) (H .⇛ (C #conversation·turn·finish (u ∷ sliced x₃ ∷ vint w64 filled ∷ sliced x₄ ∷ []) (λ w. mean 𝓤 H A (Finished it said w))))
+        finishes : Triple 𝓤 (C #conversation·pending·finish) Finish → (it : Heard) (u : Val) (said : List ℕ) → Is O.the-row it (u ∷ [])
+            → ent 𝓤 (⋆ 𝓤 H A (‵ Tape ∷ ‵ (Buffer said) ∷ [])) (H .⇛ (C #conversation·pending·finish (u ∷ sliced x₃ ∷ vint w64 filled ∷ sliced x₄ ∷ []) (λ w. mean 𝓤 H A (Finished it said w))))
         finishes known it u said is-heard =
             qed W (‵ Tape ∷ ‵ (Buffer said) ∷ []) ∵ updating ! $ fsplit ! $ move ! (2 ∷ []) $ fsplit ! $ as-long ! u8 x₄ said is₄ (λ same.
             -- [the buffer and its token; the tape and its token]
@@ -195,7 +195,7 @@ module _ {M : Type 1} (𝓤 : URA M) (H : Heap 𝓤) (A : Atoms 𝓤) (W : Given
           nothing ! $ nothing ! $ nothing ! $ nothing ! $ nothing ! $ move ! (11 ∷ 9 ∷ 7 ∷ 6 ∷ 0 ∷ []) $ group ! 5 $ frame ! $ move ! (0 ∷ 6 ∷ 5 ∷ 1 ∷ 2 ∷ 4 ∷ 3 ∷ []) $ group ! 7 $ frame ! $
           owned ! O.the-row (Is O.the-row) (LL.makes O.the-type O′.the-plain 𝓤 H A) r _ is $ done !)))
 
-      module _ (𝓣 : Tables 𝓤 H) (known-talk : Triple 𝓤 (𝓣 .C #conversation·converse) Talk) (known-finish : Triple 𝓤 (𝓣 .C #conversation·turn·finish) Finish) where
+      module _ (𝓣 : Tables 𝓤 H) (known-talk : Triple 𝓤 (𝓣 .C #conversation·converse) Talk) (known-finish : Triple 𝓤 (𝓣 .C #conversation·pending·finish) Finish) where
         abbrev fm : FmC 𝓤 H (W .laws) (𝓣 .C)
         fm = fmOf 𝓤 H (W .laws) 𝓣
 
@@ -222,7 +222,7 @@ module _ {M : Type 1} (𝓤 : URA M) (H : Heap 𝓤) (A : Atoms 𝓤) (W : Given
             assigns ! (addr ! (from ! (fld ! refl (hop ! (look-in ! 17 (sub ! 0 refl (whole !))) (stop !))))) (from ! (stop !)) (init ! 36 refl (tt, tt)) $
             assigns ! (agg ! (and-then ! (load ! (from ! (stop !)) (look ! 36 refl)) (and-then ! (load ! (from ! (fld ! refl (stop !))) (look-in ! 17 (sub ! 1 refl (whole !)))) (no-more !)))) (from ! (stop !)) (init ! 38 refl (tt, (tt, (record { fits = is₄ .0 .1 .0 }, tt)))) $
             move ! (1 ∷ 2 ∷ []) $
-            use2 W (later (raw (𝓣 .C #conversation·turn·finish (u ∷ sliced x₃ ∷ vint w64 filled ∷ sliced x₄ ∷ []) (λ w. mean 𝓤 H A (Finished (x .0) (x .4) w))))) (finishes (𝓣 .C) fm known-finish (x .0) u (x .4) (talked .0)) $ await ! tt $
+            use2 W (later (raw (𝓣 .C #conversation·pending·finish (u ∷ sliced x₃ ∷ vint w64 filled ∷ sliced x₄ ∷ []) (λ w. mean 𝓤 H A (Finished (x .0) (x .4) w))))) (finishes (𝓣 .C) fm known-finish (x .0) u (x .4) (talked .0)) $ await ! tt $
             -- [the call; the security store; the bus's cell; the array store; the locals, _k at 4 + 2 k as far as _6, and at 3 + 2 k from _8 on]
             calls ! fm (Finished (x .0) (x .4)) (and-then ! (load ! (from ! (stop !)) (look ! 19 refl)) (and-then ! (load ! (from ! (stop !)) (look ! 12 refl)) (and-then ! (load ! (from ! (stop !)) (look ! 14 refl)) (and-then ! (load ! (from ! (stop !)) (look ! 37 refl)) (no-more !))))) (λ w. await ! tt $ pick ! (λ y. learn ! (λ ended.
             land ! (from ! (stop !)) (init ! 4 refl (LL.lawful O.the-type O′.the-laws 𝓤 H A W .typed (y .0) _ (ended .0) .0)) $ returns ! (look ! 4 refl) $
@@ -233,7 +233,7 @@ module _ {M : Type 1} (𝓤 : URA M) (H : Heap 𝓤) (A : Atoms 𝓤) (W : Given
             bus-typed : Holds (hasTy T′.mir (mach-bus bus)) × WT (mach-bus bus)
             bus-typed = LL.lawful T.the-type T′.the-laws 𝓤 H A W .typed bus _ is-bus .0
 
-  answer-all-meets : (𝓣 : Tables 𝓤 H) → Triple 𝓤 (𝓣 .C #conversation·converse) Talk → Triple 𝓤 (𝓣 .C #conversation·turn·finish) Finish → Meets 𝓤 H A answer-all.signature (WpFn 𝓤 H (𝓣 .C) (𝓣 .Λ) code.function) (answer-all.spec 𝓤 H A mem run)
+  answer-all-meets : (𝓣 : Tables 𝓤 H) → Triple 𝓤 (𝓣 .C #conversation·converse) Talk → Triple 𝓤 (𝓣 .C #conversation·pending·finish) Finish → Meets 𝓤 H A answer-all.signature (WpFn 𝓤 H (𝓣 .C) (𝓣 .Λ) code.function) (answer-all.spec 𝓤 H A mem run)
   answer-all-meets 𝓣 known-talk known-finish =
       walk-meets 𝓤 H A answer-all.ended stayed W
       (goes-dropped 𝓤 H A W 4 (plain (λ _. T.the-row)) yes (λ κs x f. refl), (goes-gave-slice 𝓤 H A W 4 0 tt (plain (λ _. u8)), (goes-gave-slice 𝓤 H A W 4 1 tt (plain (λ _. u8)), (goes-dropped 𝓤 H A W 4 (shrSliceOf (2 ∷ []) tt (plain (λ _. u8))) yes (λ κs x f. refl), (goes-dropped 𝓤 H A W 4 (plain (λ _. usize)) yes (λ κs x f. refl), (goes-gave-slice 𝓤 H A W 4 3 tt (plain (λ _. u8)), tt))))))
@@ -250,4 +250,4 @@ answer-all-spec 𝓤 H 𝓜 𝓖 𝓡 =
     entered 𝓤 H _ (tables 𝓤 H 𝓜 𝓡 code.env .C) (tables 𝓤 H 𝓜 𝓡 code.env .Λ) #conversation·answer-all code.function (code.unfolded 𝓤 H 𝓜 𝓡)
     (answer-all-meets 𝓤 H (𝓖 .A) (givenOf 𝓤 H 𝓜 𝓖) (𝓜 .mem) (𝓡 .run) (tablesOf 𝓤 H 𝓜 (tables 𝓤 H 𝓜 𝓡 code.env))
     (cited 𝓤 H _ 𝓜 𝓡 code.env #conversation·converse talk-def.routine code.calls-conversation·converse (talk-thm.met 𝓤 H 𝓜 𝓖 𝓡))
-    (cited 𝓤 H _ 𝓜 𝓡 code.env #conversation·turn·finish finish-def.routine code.calls-conversation·turn·finish (finish-thm.met 𝓤 H 𝓜 𝓖 𝓡)))
+    (cited 𝓤 H _ 𝓜 𝓡 code.env #conversation·pending·finish finish-def.routine code.calls-conversation·pending·finish (finish-thm.met 𝓤 H 𝓜 𝓖 𝓡)))

@@ -17,8 +17,8 @@ met c load array security is = ap (λ (p : Phase). stopIn p c load array securit
 enum-told : tie.Need-enum-told
 enum-told c = search needs
 
-ended-requires : tie.Need-ended-requires
-ended-requires c κs = search needs
+standby-now-requires : tie.Need-standby-now-requires
+standby-now-requires c κs = search needs
 
 enum-told-2 : tie.Need-enum-told-2
 enum-told-2 c = search needs
@@ -26,20 +26,20 @@ enum-told-2 c = search needs
 enum-told-3 : tie.Need-enum-told-3
 enum-told-3 c = search needs
 
-ended-requires-2 : tie.Need-ended-requires-2
-ended-requires-2 c κs = search needs
+standby-now-requires-2 : tie.Need-standby-now-requires-2
+standby-now-requires-2 c κs = search needs
 
 enum-told-4 : tie.Need-enum-told-4
 enum-told-4 c = search needs
 
-ended-requires-3 : tie.Need-ended-requires-3
-ended-requires-3 c κs = search needs
+standby-now-requires-3 : tie.Need-standby-now-requires-3
+standby-now-requires-3 c κs = search needs
 
 enum-told-5 : tie.Need-enum-told-5
 enum-told-5 c = search needs
 
-ended-requires-4 : tie.Need-ended-requires-4
-ended-requires-4 c κs = search needs
+standby-now-requires-4 : tie.Need-standby-now-requires-4
+standby-now-requires-4 c κs = search needs
 
 enum-known-phase : tie.Need-enum-known-phase
 enum-known-phase c = search needs
@@ -50,23 +50,23 @@ stop-data-requires c κs = search needs
 enum-told-6 : tie.Need-enum-told-6
 enum-told-6 c = search needs
 
-ended-requires-5 : tie.Need-ended-requires-5
-ended-requires-5 c κs = search needs
+standby-now-requires-5 : tie.Need-standby-now-requires-5
+standby-now-requires-5 c κs = search needs
 
 returns : tie.Need-returns
-returns c = rw (c .ended .ensures) (met _ _ _ _ (c .before .enum-told .given .1))
+returns c = rw (c .standby-now .ensures) (met _ _ _ _ (c .before .enum-told .given .1))
 
 returns-2 : tie.Need-returns-2
 returns-2 c = met _ _ _ _ (c .enum-told2 .given .1)
 
 returns-3 : tie.Need-returns-3
-returns-3 c = rw (c .ended2 .ensures) (met _ _ _ _ (c .before .enum-told3 .given .1))
+returns-3 c = rw (c .standby-now2 .ensures) (met _ _ _ _ (c .before .enum-told3 .given .1))
 
 returns-4 : tie.Need-returns-4
-returns-4 c = rw (c .ended3 .ensures) (met _ _ _ _ (c .before .enum-told4 .given .1))
+returns-4 c = rw (c .standby-now3 .ensures) (met _ _ _ _ (c .before .enum-told4 .given .1))
 
 returns-5 : tie.Need-returns-5
-returns-5 c = rw (c .ended4 .ensures) (met _ _ _ _ (c .before .enum-told5 .given .1))
+returns-5 c = rw (c .standby-now4 .ensures) (met _ _ _ _ (c .before .enum-told5 .given .1))
 
 same-length : tie.Need-same-length
 same-length c = search needs
@@ -78,25 +78,25 @@ returns-6 : tie.Need-returns-6
 returns-6 c = c .before .before .before .before .stop-data .ensures ∙ met _ _ _ _ (c .before .before .before .before .before .before .before .before .phase .given .1)
 
 returns-7 : tie.Need-returns-7
-returns-7 c = rw (c .ended5 .ensures) (met _ _ _ _ (c .before .enum-told6 .given .1))
+returns-7 c = rw (c .standby-now5 .ensures) (met _ _ _ _ (c .before .enum-told6 .given .1))
 
 pub stop-spec : {M : Type 1} → statement M
 stop-spec =
     tie.close
     (tie.spec
     enum-told
-    ended-requires
+    standby-now-requires
     enum-told-2
     enum-told-3
-    ended-requires-2
+    standby-now-requires-2
     enum-told-4
-    ended-requires-3
+    standby-now-requires-3
     enum-told-5
-    ended-requires-4
+    standby-now-requires-4
     enum-known-phase
     stop-data-requires
     enum-told-6
-    ended-requires-5
+    standby-now-requires-5
     returns
     returns-2
     returns-3

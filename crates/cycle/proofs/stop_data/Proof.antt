@@ -34,8 +34,8 @@ stop-lock-requires c κs = search needs
 enum-told-3 : tie.Need-enum-told-3
 enum-told-3 c = search needs
 
-ended-requires : tie.Need-ended-requires
-ended-requires c κs = search needs
+standby-now-requires : tie.Need-standby-now-requires
+standby-now-requires c κs = search needs
 
 same-length : tie.Need-same-length
 same-length c = search needs
@@ -56,7 +56,7 @@ returns-4 : tie.Need-returns-4
 returns-4 c = rw (c .before .before .kind2 .given .1, c .stop-lock .ensures)
 
 returns-5 : tie.Need-returns-5
-returns-5 c = rw (c .before .enum-told3 .given .1, c .ended .ensures)
+returns-5 c = rw (c .before .enum-told3 .given .1, c .standby-now .ensures)
 
 pub stop-data-spec : {M : Type 1} → statement M
 stop-data-spec =
@@ -71,7 +71,7 @@ stop-data-spec =
     enum-known-kind-2
     stop-lock-requires
     enum-told-3
-    ended-requires
+    standby-now-requires
     same-length
     returns
     same-length-2

@@ -10,20 +10,20 @@ writes-security-requires c κs = search needs
 store-page-requires : tie.Need-store-page-requires
 store-page-requires c κs = search needs
 
-started-requires : tie.Need-started-requires
-started-requires c κs = search needs
+busy-now-requires : tie.Need-busy-now-requires
+busy-now-requires c κs = search needs
 
 same-length : tie.Need-same-length
 same-length c = search needs
 
 returns : tie.Need-returns
-returns c = rw (sym (c .before .before .before .before .before .before .writes-security .ensures) ∙ c .before .before .before .before .before .if1 .taken, c .started .ensures, c .before .before .before .store-page .ensures)
+returns c = rw (sym (c .before .before .before .before .before .before .writes-security .ensures) ∙ c .before .before .before .before .before .if1 .taken, c .busy-now .ensures, c .before .before .before .store-page .ensures)
 
-ended-requires : tie.Need-ended-requires
-ended-requires c κs = search needs
+standby-now-requires : tie.Need-standby-now-requires
+standby-now-requires c κs = search needs
 
 returns-2 : tie.Need-returns-2
-returns-2 c = rw (sym (c .before .before .writes-security .ensures) ∙ c .before .if1 .left, c .ended .ensures)
+returns-2 c = rw (sym (c .before .before .writes-security .ensures) ∙ c .before .if1 .left, c .standby-now .ensures)
 
 pub stop-security-spec : {M : Type 1} → statement M
 stop-security-spec =
@@ -31,8 +31,8 @@ stop-security-spec =
     (tie.spec
     writes-security-requires
     store-page-requires
-    started-requires
+    busy-now-requires
     same-length
     returns
-    ended-requires
+    standby-now-requires
     returns-2)

@@ -6,7 +6,7 @@ use Rattle.control.specs.Control.{fresh}
 use Rattle.board.specs.Place.{placed}
 use Rattle.board.proofs.Laws.{placed-most}
 use Rattle.lineup.proofs.Laws.{control-at}
-use Rattle.order.specs.Hearing.{clashesWith}
+use Rattle.decode.specs.Hearing.{clashesWith}
 use mathlib.Core.Bool.{Bool, _||_}
 use lib.ListN.{getD}
 use Prim.Native.Nat.{ℕ, _≤_, _-_}

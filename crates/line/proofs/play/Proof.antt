@@ -1,5 +1,5 @@
--- Each turn of the loop is the definition's turn of its chip (Turn), from where its shares start; figures of parts are small, so their sums fit.
--- A chip is as it came until its turn, so that its part is the one on the board.
+-- Each iteration is what the definition has of its chip (Takes), from where its shares start; figures of parts are small, so their sums fit.
+-- A chip is as it came until the loop is at it, so that its part is the one on the board.
 use mathlib.Core.Logic.{⊎-elim}
 use mathlib.Core.Path.{_≡_, _∙_, refl, ap, sym}
 use mathlib.Core.Bool.{Bool, true, false, _&&_}
@@ -7,8 +7,8 @@ use mathlib.Core.List.{List}
 use Rattle.chip.specs.declared.Chip.{Chip}
 use Rattle.chip.specs.declared.event.Event.{Event}
 use Rattle.control.specs.declared.Said.{Said}
-use Rattle.order.specs.Order.{reaches, eventOf}
-use Rattle.order.specs.Hearing.{hears}
+use Rattle.decode.specs.Decode.{reaches, eventOf}
+use Rattle.decode.specs.Hearing.{hears}
 use Rattle.board.specs.declared.Place.{Place}
 use Rattle.board.specs.Place.{placeAt}
 use Rattle.chip.specs.Chip.{step}
@@ -23,9 +23,9 @@ use Rattle.parts.proofs.part.Laws.{sound-is, sound-of}
 use Rattle.control.specs.declared.Said.the-variants.{Nothing}
 use Rattle.board.specs.Shares.{figuresAt, arrayStart, securityStart}
 use Rattle.board.proofs.Laws.{placed-most}
-use Rattle.line.specs.Line.{turnAt, play}
+use Rattle.line.specs.Line.{chipTakes, play}
 use Rattle.parts.specs.declared.part.Geometry.{Geometry}
-use Rattle.line.proofs.Turn.{world, share-ends, share-lies, next-begins, lent, back, turn-taken, turn-none}
+use Rattle.line.proofs.Takes.{world, share-ends, share-lies, next-begins, lent, back, chip-takes, none-takes}
 use Rattle.base.proofs.Fold.{and-left, and-right, up-end}
 use borrow.Rule.Slice.PartMut.{same-len-mid}
 use borrow.Author.Tests.{ltb-true}
@@ -39,8 +39,8 @@ use Rattle.line.proofs.play.Statement.{statement}
 use Rattle.line.proofs.play.Tie as tie
 
 abbrev Inv-loop : tie.InvT-loop
-Inv-loop order count array₀ security₀ event n next₀ said₀ at₀ from₀ i₀ array security next said at from i =
-    (world next said array security ≡ upTo (turnAt order (placesOf next₀)) (least i n) (world next₀ said₀ array₀ security₀))
+Inv-loop addressed count array₀ security₀ event n next₀ said₀ at₀ from₀ i₀ array security next said at from i =
+    (world next said array security ≡ upTo (chipTakes addressed (placesOf next₀)) (least i n) (world next₀ said₀ array₀ security₀))
     × (at ≡ least (arrayStart (placesOf next₀) i) (length array₀))
     × (from ≡ least (securityStart (placesOf next₀) i) (length security₀))
     × (at ≤ i * 2 ^ 24)
@@ -51,7 +51,7 @@ Inv-loop order count array₀ security₀ event n next₀ said₀ at₀ from₀ 
     × (i ≤ 4)
 
 abbrev μ-loop : tie.MeasureT-loop
-μ-loop order count array₀ security₀ event n next₀ said₀ at₀ from₀ i₀ array security next said at from i =
+μ-loop addressed count array₀ security₀ event n next₀ said₀ at₀ from₀ i₀ array security next said at from i =
     4 - i
 
 event-of-requires : tie.Need-event-of-requires Inv-loop μ-loop
@@ -166,12 +166,12 @@ add-i c = omega arith
 loop-less : tie.Need-loop-less Inv-loop μ-loop
 loop-less c = omega arith
 
--- the turn of chip i, both stores as long as before, and the chips behind it as they came
+-- chip i has taken the event, both stores as long as before, and the chips behind it as they came
 abbrev Turned : tie.Joined1 Inv-loop μ-loop → Type 0
 Turned c =
     let l = c .before .before .before .before .before .before .before .before .before .before .before .before .before .loop in
     let a = c .before .before .before .before .before .before .before .before .before .before .before .before .before .before .before .before .before .before .args in
-    (world (c .if1 .next) (c .if1 .said) (c .if1 .array) (c .if1 .security) ≡ upTo (turnAt (a .order) (placesOf (a .chips))) (least (l .i + 1) (c .before .before .before .before .before .before .before .before .before .before .before .before .before .before .placed .result)) (world (a .chips) Nothing (a .array .now) (a .security .now)))
+    (world (c .if1 .next) (c .if1 .said) (c .if1 .array) (c .if1 .security) ≡ upTo (chipTakes (a .addressed) (placesOf (a .chips))) (least (l .i + 1) (c .before .before .before .before .before .before .before .before .before .before .before .before .before .before .placed .result)) (world (a .chips) Nothing (a .array .now) (a .security .now)))
     × (length (c .if1 .array) ≡ length (l .array))
     × (length (c .if1 .security) ≡ length (l .security))
     × ((k : ℕ) → l .i + 1 ≤ k → chipAt (c .if1 .next) k ≡ chipAt (a .chips) k)
@@ -182,7 +182,7 @@ turned c =
     let s = c .before .before .before .before .before in
     let a = c .before .before .before .before .before .before .before .before .before .before .before .before .before .before .before .before .before .before .args in
     let n = c .before .before .before .before .before .before .before .before .before .before .before .before .before .before .placed .result in
-    let order = a .order in
+    let addressed = a .addressed in
     let places = placesOf (a .chips) in
     let array-begin = array-begins s in
     let array-end = share-ends _ _ _ _ _ (array-begins s) (array-ends s) in
@@ -195,7 +195,7 @@ turned c =
     let hearing : (c .before .before .before .before .reaches .result && c .before .before .before .hears .result) ≡ true = sym (c .before .before .and .ensures) ∙ and-right (ltb (l .i) n) _ both in (
       until-more _ n _ (l .i) (l .inv .0) (ltb-true _ _ (and-left _ _ both))
           (ap (λ (chips : List Chip). world chips (c .if1 .said) (c .if1 .array) (c .if1 .security)) (w .12)
-          ∙ turn-taken order places (l .i) (l .next) (l .said) (l .array) (l .security) (q .result) (c .if1 .array) (c .if1 .security) _ _ (q .last .1 .0) (q .last .1 .1 .0) (c .if1 .said)
+          ∙ chip-takes addressed places (l .i) (l .next) (l .said) (l .array) (l .security) (q .result) (c .if1 .array) (c .if1 .security) _ _ (q .last .1 .0) (q .last .1 .1 .0) (c .if1 .said)
           (sym (c .before .before .before .before .reaches .ensures) ∙ and-left _ _ hearing)
           (lent _ _ _ _ (l .array) array-begin array-end)
           (lent _ _ _ _ (l .security) security-begin security-end)
@@ -209,8 +209,8 @@ turned c =
     ))
     (λ w.
     let phase = chipAt (l .next) (l .i) .control .phase in
-    let deaf : (ltb (l .i) n && (reaches order (l .i) && hears (eventOf order) phase)) ≡ false =
-    ap (λ (r : Bool). ltb (l .i) n && (r && hears (eventOf order) phase)) (sym (c .before .before .before .before .reaches .ensures))
+    let deaf : (ltb (l .i) n && (reaches addressed (l .i) && hears (eventOf addressed) phase)) ≡ false =
+    ap (λ (r : Bool). ltb (l .i) n && (r && hears (eventOf addressed) phase)) (sym (c .before .before .before .before .reaches .ensures))
     ∙ ap (λ (h : Bool). ltb (l .i) n && (c .before .before .before .before .reaches .result && h)) (sym (c .before .before .before .hears .ensures ∙ ap (λ (e : Event). hears e phase) (c .before .before .before .before .before .before .before .before .before .before .before .before .before .before .before .event-of .ensures)))
     ∙ ap (λ (both : Bool). ltb (l .i) n && both) (sym (c .before .before .and .ensures))
     ∙ sym (c .before .and2 .ensures)
@@ -219,7 +219,7 @@ turned c =
           ∙ ap (λ (said : Said). world (l .next) said (c .if1 .array) (c .if1 .security)) (w .4)
           ∙ ap (λ (xs : List ℕ). world (l .next) (l .said) xs (c .if1 .security)) (w .1)
           ∙ ap (λ (xs : List ℕ). world (l .next) (l .said) (l .array) xs) (w .2)
-          ∙ turn-none order places (l .i) n (l .next) (l .said) (l .array) (l .security) _ (l .inv .0) deaf,
+          ∙ none-takes addressed places (l .i) n (l .next) (l .said) (l .array) (l .security) _ (l .inv .0) deaf,
       ap (λ (xs : List ℕ). length xs) (w .1),
       ap (λ (xs : List ℕ). length xs) (w .2),
       (λ k past. ap (λ (chips : List Chip). chipAt chips k) (w .3) ∙ l .inv .7 k (omega (arith, past))),

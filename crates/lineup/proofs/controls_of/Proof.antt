@@ -1,4 +1,4 @@
--- Each turn sets its control.
+-- Each iteration sets its control.
 use Rattle.control.specs.declared.Control.{Control}
 use Rattle.control.specs.Control.{fresh}
 use Rattle.lineup.specs.Chips.{controlAt, controlsOf}

@@ -1,4 +1,4 @@
--- Each turn sets its place.
+-- Each iteration sets its place.
 use Rattle.board.specs.declared.Place.{Place}
 use Rattle.board.specs.Place.{nowhere}
 use Rattle.lineup.specs.Chips.{controlAt, placeOf, placesOf}

@@ -4,8 +4,8 @@ use borrow.Author.Needs.{needs}
 use Rattle.reader.proofs.place_after.Statement.{statement}
 use Rattle.reader.proofs.place_after.Tie as tie
 
-enum-known-line : tie.Need-enum-known-line
-enum-known-line c = search needs
+enum-known-frame : tie.Need-enum-known-frame
+enum-known-frame c = search needs
 
 enum-told : tie.Need-enum-told
 enum-told c = search needs
@@ -24,4 +24,4 @@ returns-3 c = search needs
 
 pub place-after-spec : {M : Type 1} → statement M
 place-after-spec =
-    tie.close (tie.spec enum-known-line enum-told enum-told-2 returns returns-2 returns-3)
+    tie.close (tie.spec enum-known-frame enum-told enum-told-2 returns returns-2 returns-3)

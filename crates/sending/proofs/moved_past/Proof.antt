@@ -12,8 +12,8 @@ enum-told c = search needs
 next-in-requires : tie.Need-next-in-requires
 next-in-requires c κs = search needs
 
-array-at-requires : tie.Need-array-at-requires
-array-at-requires c κs = search needs
+arraycounter-at-requires : tie.Need-arraycounter-at-requires
+arraycounter-at-requires c κs = search needs
 
 enum-told-2 : tie.Need-enum-told-2
 enum-told-2 c = search needs
@@ -21,8 +21,8 @@ enum-told-2 c = search needs
 next-in-requires-2 : tie.Need-next-in-requires-2
 next-in-requires-2 c κs = search needs
 
-security-at-requires : tie.Need-security-at-requires
-security-at-requires c κs = search needs
+securitycounter-at-requires : tie.Need-securitycounter-at-requires
+securitycounter-at-requires c κs = search needs
 
 enum-known-source : tie.Need-enum-known-source
 enum-known-source c = search needs
@@ -43,10 +43,10 @@ enum-told-3 : tie.Need-enum-told-3
 enum-told-3 c = search needs
 
 returns : tie.Need-returns
-returns c = rw (c .before .before .enum-told .given .1, c .array-at .ensures, c .before .next-in .ensures, c .before .before .before .before .geometry-of .ensures)
+returns c = rw (c .before .before .enum-told .given .1, c .arraycounter-at .ensures, c .before .next-in .ensures, c .before .before .before .before .geometry-of .ensures)
 
 returns-2 : tie.Need-returns-2
-returns-2 c = rw (c .before .before .enum-told2 .given .1, c .security-at .ensures, c .before .next-in2 .ensures, c .before .before .before .before .geometry-of .ensures)
+returns-2 c = rw (c .before .before .enum-told2 .given .1, c .securitycounter-at .ensures, c .before .next-in2 .ensures, c .before .before .before .before .geometry-of .ensures)
 
 returns-3 : tie.Need-returns-3
 returns-3 c = rw (c .before .before .source .given .1, c .in-phase .ensures)
@@ -64,10 +64,10 @@ moved-past-spec =
     geometry-of-requires
     enum-told
     next-in-requires
-    array-at-requires
+    arraycounter-at-requires
     enum-told-2
     next-in-requires-2
-    security-at-requires
+    securitycounter-at-requires
     enum-known-source
     in-phase-requires
     enum-known-source-2

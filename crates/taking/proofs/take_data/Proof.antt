@@ -9,8 +9,8 @@ enum-told c = search needs
 next-in-page-requires : tie.Need-next-in-page-requires
 next-in-page-requires c κs = search needs
 
-array-at-requires : tie.Need-array-at-requires
-array-at-requires c κs = search needs
+arraycounter-at-requires : tie.Need-arraycounter-at-requires
+arraycounter-at-requires c κs = search needs
 
 acked-requires : tie.Need-acked-requires
 acked-requires c κs = search needs
@@ -21,8 +21,8 @@ enum-told-2 c = search needs
 next-in-page-requires-2 : tie.Need-next-in-page-requires-2
 next-in-page-requires-2 c κs = search needs
 
-security-at-requires : tie.Need-security-at-requires
-security-at-requires c κs = search needs
+securitycounter-at-requires : tie.Need-securitycounter-at-requires
+securitycounter-at-requires c κs = search needs
 
 acked-requires-2 : tie.Need-acked-requires-2
 acked-requires-2 c κs = search needs
@@ -49,10 +49,10 @@ acked-requires-4 : tie.Need-acked-requires-4
 acked-requires-4 c κs = search needs
 
 returns : tie.Need-returns
-returns c = rw (c .before .before .before .enum-told .given .1, c .acked .ensures, c .before .array-at .ensures, c .before .before .next-in-page .ensures)
+returns c = rw (c .before .before .before .enum-told .given .1, c .acked .ensures, c .before .arraycounter-at .ensures, c .before .before .next-in-page .ensures)
 
 returns-2 : tie.Need-returns-2
-returns-2 c = rw (c .before .before .before .enum-told2 .given .1, c .acked2 .ensures, c .before .security-at .ensures, c .before .before .next-in-page2 .ensures)
+returns-2 c = rw (c .before .before .before .enum-told2 .given .1, c .acked2 .ensures, c .before .securitycounter-at .ensures, c .before .before .next-in-page2 .ensures)
 
 returns-3 : tie.Need-returns-3
 returns-3 c = rw (c .before .before .before .kind .given .1, c .acked3 .ensures, c .before .came-more .ensures)
@@ -69,11 +69,11 @@ take-data-spec =
     (tie.spec
     enum-told
     next-in-page-requires
-    array-at-requires
+    arraycounter-at-requires
     acked-requires
     enum-told-2
     next-in-page-requires-2
-    security-at-requires
+    securitycounter-at-requires
     acked-requires-2
     enum-known-kind
     came-more-requires

@@ -1,11 +1,11 @@
--- Check 11, then the entry checks; where they pass, every event in turn.
+-- Check 11, then the entry checks; where they pass, one event after the other.
 use borrow.Author.Tests.{lt-ltb, le-ltb}
 use Rattle.refusal.specs.declared.Refusal.the-variants.{ShortBuffer}
 use Rattle.refusal.specs.declared.Verdict.{Verdict}
 use Rattle.refusal.specs.declared.Verdict.the-variants.{Passed, Refused}
 use Rattle.refusal.specs.Checks.{firstOf}
 use Rattle.bus.specs.Step.{entryChecks}
-use Rattle.bus.specs.Run.{Tape, runBy, run}
+use Rattle.bus.specs.Run.{Progress, runBy, run}
 use mathlib.Core.Path.{_∙_, ap, sym}
 use mathlib.Core.Bool.{Bool, cond}
 use borrow.Author.Needs.{needs}
@@ -53,7 +53,7 @@ same-length-5 c = search needs
 returns-3 : tie.Need-returns-3
 unfolding run
 returns-3 c = let a = c .before .before .before .before .before .before .before .before .before .before .before .before .before .before .before .before .before .before .before .before .args in
-    ap (λ (tape : Tape). (Passed, tape)) (c .before .before .before .before .before .before .run-all .ensures)
+    ap (λ (progress : Progress). (Passed, progress)) (c .before .before .before .before .before .before .run-all .ensures)
     ∙ ap (λ (v : Verdict). runBy v (a .events .now) (a .self, a .array .now, a .security .now, a .answers .now)) (sym (c .before .before .before .before .before .before .before .before .before .before .enum-told .given .1) ∙ c .before .before .before .before .before .before .before .before .before .before .before .before .entry-verdict .ensures)
     ∙ ap (λ (short : Bool). runBy (cond short (Refused ShortBuffer) (firstOf (entryChecks (a .self) (a .array .now) (a .security .now)))) (a .events .now) (a .self, a .array .now, a .security .now, a .answers .now)) (sym (le-ltb _ _ (c .before .before .before .before .before .before .before .before .before .before .before .before .before .before .before .if1 .left)))
 

@@ -1,0 +1,84 @@
+-- The answer is put in its place, and then what is pending at the place after the line.
+use native.Mathlib.Omega.{arith}
+use mathlib.Core.Path.{_∙_, refl, sym, ap}
+use borrow.Author.Needs.{needs}
+use denote.Ref.{now}
+use lib.ListN.{length}
+use Prim.Native.Nat.{ℕ, _+_}
+use mathlib.Core.List.{List}
+use borrow.Author.Tests.{leb-true, not-true, not-false}
+use Rattle.base.specs.Store.{patched}
+use Rattle.print.specs.Print.{printed}
+use Rattle.conversation.specs.Tape.{textOn}
+use Rattle.conversation.specs.Pending.{pendingAt, nextPending}
+use Rattle.conversation.proofs.Laws.{text-before, length-before}
+use Rattle.conversation.proofs.pending.next_pending.Statement.{statement}
+use Rattle.conversation.proofs.pending.next_pending.Tie as tie
+
+has-room-requires : tie.Need-has-room-requires
+has-room-requires c κs = search needs
+
+paused-requires : tie.Need-paused-requires
+paused-requires c κs = search needs
+
+same-length : tie.Need-same-length
+same-length c = search needs
+
+returns : tie.Need-returns
+unfolding nextPending
+returns c = rw (sym (c .before .before .has-room .ensures), not-true (c .before .before .has-room .result) (c .before .if1 .taken), c .paused .ensures) refl
+
+answer-word-requires : tie.Need-answer-word-requires
+answer-word-requires c κs = search needs
+
+printed-requires : tie.Need-printed-requires
+printed-requires c κs = search needs
+
+put-requires : tie.Need-put-requires
+put-requires c κs =
+    let a = c .before .before .before .before .before .before .before .before .args in
+    leb-true (a .pending .written + 9) (length (now (a .said))) (sym (c .before .before .before .before .has-room .ensures) ∙ not-false _ (c .before .before .before .if1 .left))
+
+text-end-requires : tie.Need-text-end-requires
+text-end-requires c κs = search needs
+
+slice-aggregate-pending-at : tie.Need-slice-aggregate-pending-at
+slice-aggregate-pending-at c = length-before (now (c .before .before .before .before .before .before .before .before .before .before .before .before .before .args .tape)) (c .before .before .before .before .before .before .before .before .before .before .before .before .before .args .filled) (c .before .text-end .ensures)
+
+add-pending-at : tie.Need-add-pending-at
+add-pending-at c =
+    let a = c .before .before .before .before .before .before .before .before .before .before .before .before .before .before .args in
+    omega (arith, leb-true (a .pending .written + 9) (length (now (a .said))) (sym (c .before .before .before .before .before .before .before .before .before .before .has-room .ensures) ∙ not-false _ (c .before .before .before .before .before .before .before .before .before .if1 .left)))
+
+pending-at-requires : tie.Need-pending-at-requires
+pending-at-requires c κs = search needs
+
+same-length-2 : tie.Need-same-length-2
+same-length-2 c = search needs
+
+returns-2 : tie.Need-returns-2
+unfolding nextPending
+returns-2 c =
+    let a = c .before .before .before .before .before .before .before .before .before .before .before .before .before .before .before .before .before .args in
+    rw (sym (c .before .before .before .before .before .before .before .before .before .before .before .before .before .has-room .ensures), not-false (c .before .before .before .before .before .before .before .before .before .before .before .before .before .has-room .result) (c .before .before .before .before .before .before .before .before .before .before .before .before .if1 .left))
+    (c .before .before .pending-at .ensures ∙ ap (λ (text : List ℕ). pendingAt text (a .pending .at) (c .before .before .before .before .before .before .before .before .put .last .1 .0) (a .pending .written + 9)) (text-before (now (a .tape)) (a .filled) (c .before .before .before .before .before .text-end .ensures))
+    ∙ ap (λ (said : List ℕ). pendingAt (textOn (now (a .tape)) (a .filled)) (a .pending .at) said (a .pending .written + 9))
+    (c .before .before .before .before .before .before .before .before .put .ensures ∙ ap (λ (line : List ℕ). patched (a .pending .written) line (now (a .said))) (c .before .before .before .before .before .before .before .before .before .before .printed .ensures ∙ ap (printed (a .pending .event)) (c .before .before .before .before .before .before .before .before .before .before .before .answer-word .ensures))))
+
+pub next-pending-spec : {M : Type 1} → statement M
+next-pending-spec =
+    tie.close
+    (tie.spec
+    has-room-requires
+    paused-requires
+    same-length
+    returns
+    answer-word-requires
+    printed-requires
+    put-requires
+    text-end-requires
+    slice-aggregate-pending-at
+    add-pending-at
+    pending-at-requires
+    same-length-2
+    returns-2)

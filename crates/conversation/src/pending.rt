@@ -1,0 +1,174 @@
+// What is pending in a conversation: the event that is to be played next, if there is one.
+use crate::Heard;
+use crate::tape::text_end;
+use base::logic::and;
+use print::PRINTED;
+use print::closing;
+use print::printed;
+use reader::read_frame;
+use refusal::Answer;
+use refusal::answer_word;
+use transcript::digit::DIGITS;
+use transcript::digit::digit_of;
+use transcript::frame::FRAME;
+use transcript::frame::Frame;
+ghost use Prim.Native.Nat.{_+_, _≤_};
+ghost use mathlib.Core.Path.{_≡_};
+ghost use lib.ListN.{length};
+ghost use Rattle.base.specs.Store.{patched};
+ghost use Rattle.conversation.specs.Talk.{unfinished};
+ghost use Rattle.conversation.specs.Tape.{textOn};
+ghost use Rattle.conversation.specs.Pending.{hasRoom, paused, pendingBy, pendingAt, nextPending, heardOf, finished};
+
+// The paper's number for a malformed line.
+pub const MALFORMED: u8 = 9;
+
+pub struct Pending {
+    pub more: bool,
+    pub event: u16,
+    pub at: usize,
+    pub written: usize,
+    pub over: bool,
+}
+
+fn paused(at: usize, written: usize) -> Pending
+    ensures { λ r. ⌜ r ≡ paused at written ⌝ }
+{
+    Pending {
+        more: false,
+        event: 0,
+        at,
+        written,
+        over: false,
+    }
+}
+
+fn has_room(said: &[u8], written: usize) -> bool
+    ensures { λ r. ⌜ r ≡ hasRoom (now (said .entry)) written ⌝ }
+{
+    if said.len() < PRINTED {
+        return false;
+    }
+    written <= said.len() - PRINTED
+}
+
+// Whether the bytes from a place on may still become a line: fewer than a line has, and all digits.
+fn is_unfinished(text: &[u8], at: usize) -> bool
+    requires { ⌜ at ≤ length (now text) ⌝ }
+    ensures { λ r. ⌜ r ≡ unfinished (now (text .entry)) at ⌝ }
+{
+    let left = text.len() - at;
+    if FRAME <= left {
+        return false;
+    }
+    let mut digits = true;
+    let mut i: usize = 0;
+    while i < left {
+        digits = and(digit_of(text[at + i]) < DIGITS, digits);
+        i += 1;
+    }
+    digits
+}
+
+// A line or the answer to one, in its place.
+fn put(line: [u8; PRINTED], said: &mut [u8], written: usize)
+    requires { ⌜ written + 9 ≤ length (now said) ⌝ }
+    ensures { λ _. ⌜ now (said .exit) ≡ patched written line (now (said .entry)) ⌝ }
+{
+    bytes::copy(&line, &mut said[written..]);
+}
+
+// No line stands at the place. What may still become one waits for more.
+fn pending_without_frame(text: &[u8], at: usize, said: &mut [u8], written: usize) -> Pending
+    requires { ⌜ at ≤ length (now text) ⌝ }
+    requires { ⌜ written + 9 ≤ length (now said) ⌝ }
+    ensures { λ r. ⌜ (r, now (said .exit)) ≡ pendingBy Frame.Malformed (now (text .entry)) at (now (said .entry)) written ⌝ }
+{
+    if is_unfinished(text, at) {
+        return paused(at, written);
+    }
+    put(closing(MALFORMED), said, written);
+    Pending {
+        more: false,
+        event: 0,
+        at: text.len(),
+        written: written + PRINTED,
+        over: true,
+    }
+}
+
+fn pending_at(text: &[u8], at: usize, said: &mut [u8], written: usize) -> Pending
+    ensures { λ r. ⌜ (r, now (said .exit)) ≡ pendingAt (now (text .entry)) at (now (said .entry)) written ⌝ }
+{
+    if !has_room(said, written) {
+        return paused(at, written);
+    }
+    match read_frame(text, at) {
+        Frame::Event(event, next) => Pending {
+            more: true,
+            event,
+            at: next,
+            written,
+            over: false,
+        },
+        Frame::Malformed => pending_without_frame(text, at, said, written),
+        Frame::End => paused(at, written),
+    }
+}
+
+pub fn first_pending(tape: &[u8], filled: usize, said: &mut [u8]) -> Pending
+    ensures { λ r. ⌜ (r, now (said .exit)) ≡ pendingAt (textOn (now (tape .entry)) filled) 0 (now (said .entry)) 0 ⌝ }
+{
+    let end = text_end(tape, filled);
+    pending_at(&tape[..end], 0, said, 0)
+}
+
+// The answer to the event is noted, and what stands at the place after it is pending.
+pub fn next_pending(
+    pending: Pending,
+    answer: Answer,
+    tape: &[u8],
+    filled: usize,
+    said: &mut [u8],
+) -> Pending
+    ensures { λ r. ⌜ (r, now (said .exit)) ≡ nextPending (textOn (now (tape .entry)) filled) pending answer (now (said .entry)) ⌝ }
+{
+    let at = pending.at;
+    let written = pending.written;
+    if !has_room(said, written) {
+        return paused(at, written);
+    }
+    put(printed(pending.event, answer_word(answer)), said, written);
+    let end = text_end(tape, filled);
+    pending_at(&tape[..end], at, said, written + PRINTED)
+}
+
+pub fn heard_of(pending: Pending) -> Heard
+    ensures { λ r. ⌜ r ≡ heardOf pending ⌝ }
+{
+    Heard {
+        used: pending.at,
+        written: pending.written,
+        over: pending.over,
+    }
+}
+
+// The text has ended: a line that is left of it is malformed.
+pub fn finish(heard: Heard, tape: &[u8], filled: usize, said: &mut [u8]) -> Heard
+    ensures { λ r. ⌜ (r, now (said .exit)) ≡ finished (textOn (now (tape .entry)) filled) heard (now (said .entry)) ⌝ }
+{
+    let end = text_end(tape, filled);
+    let written = heard.written;
+    if end <= heard.used {
+        return heard;
+    }
+    if !has_room(said, written) {
+        return heard;
+    }
+    put(closing(MALFORMED), said, written);
+    Heard {
+        used: end,
+        written: written + PRINTED,
+        over: true,
+    }
+}

@@ -1,0 +1,37 @@
+// An event and the phase of a chip that it meets.
+use chip::event::Event;
+use control::phase::Phase;
+use control::phase::is_sending;
+use control::phase::is_taking;
+ghost use mathlib.Core.Path.{_≡_};
+ghost use Rattle.decode.specs.Hearing.{clashesWith, hears};
+
+// Refusal 8, of one chip.
+pub fn clashes_with(event: Event, phase: Phase) -> bool
+    ensures { λ r. ⌜ r ≡ clashesWith event phase ⌝ }
+{
+    match event {
+        Event::Start => false,
+        Event::Stop => false,
+        Event::Sent(_) => is_sending(phase),
+        Event::Read(_) => is_taking(phase),
+        Event::Wp(_) => false,
+        Event::CycleOver => false,
+        Event::PowerUp => false,
+    }
+}
+
+// Whether the chip may take notice. Others need not be moved at all.
+pub fn hears(event: Event, phase: Phase) -> bool
+    ensures { λ r. ⌜ r ≡ hears event phase ⌝ }
+{
+    match event {
+        Event::Start => true,
+        Event::Stop => true,
+        Event::Sent(_) => is_taking(phase),
+        Event::Read(_) => is_sending(phase),
+        Event::Wp(_) => true,
+        Event::CycleOver => true,
+        Event::PowerUp => true,
+    }
+}

@@ -15,9 +15,9 @@ use Rattle.chip.specs.declared.event.Event.{Event}
 use Rattle.chip.specs.declared.event.Event.the-variants.{Start, Stop, Sent, Read, Wp, CycleOver, PowerUp}
 use Rattle.chip.specs.Chip as one-chip
 use Rattle.chip.proofs.Typed.{ChipTyped}
-use Rattle.keeping.specs.Bytes.{ChipBytes, SaidByte, EventByte, StepBytes}
-use Rattle.keeping.proofs.Bytes.{bytes-stay-bytes}
-use Rattle.keeping.proofs.Typed.{chip-bytes}
+use Rattle.promises.specs.ChipBytes.{ChipBytes, SaidByte, EventByte, StepBytes}
+use Rattle.promises.proofs.Keeping.Bytes.{bytes-stay-bytes}
+use Rattle.promises.proofs.Keeping.Typed.{chip-bytes}
 use Rattle.refusal.specs.declared.Verdict.{Verdict}
 use Rattle.refusal.specs.declared.Verdict.the-variants.{Passed, Refused}
 use Rattle.refusal.specs.declared.Answer.{Answer}

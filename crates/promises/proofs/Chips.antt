@@ -15,7 +15,7 @@ use Rattle.control.specs.declared.Said.the-variants.{Nothing}
 use Rattle.chip.specs.declared.Chip.{Chip}
 use Rattle.chip.specs.declared.Stepped.{Stepped}
 use Rattle.chip.specs.Chip.{quiet, step}
-use Rattle.keeping.proofs.Lengths.{Long, lengths-kept}
+use Rattle.promises.proofs.Keeping.Lengths.{Long, lengths-kept}
 use Rattle.board.specs.declared.Place.{Place}
 use Rattle.board.specs.Place.{placed}
 use Rattle.board.specs.Shares.{figuresAt, arrayStart, securityStart}

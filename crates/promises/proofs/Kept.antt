@@ -17,10 +17,10 @@ use Rattle.chip.specs.declared.event.Event.{Event}
 use Rattle.chip.proofs.Typed.{ChipTyped}
 use Rattle.wellformed.specs.Wellformed as alone
 use Rattle.wellformed.specs.Beside.{sideBySide}
-use Rattle.keeping.proofs.Wellformed.{kept}
-use Rattle.keeping.proofs.Registers.{part-kept, strap-kept}
-use Rattle.keeping.proofs.Typed.{chip-typed-kept}
-use Rattle.keeping.proofs.Beside.{isNamed, named-kept, side-by-side-kept, beside-sym}
+use Rattle.promises.proofs.Keeping.Wellformed.{kept}
+use Rattle.promises.proofs.Keeping.Registers.{part-kept, strap-kept}
+use Rattle.promises.proofs.Keeping.Typed.{chip-typed-kept}
+use Rattle.promises.proofs.Keeping.Beside.{isNamed, named-kept, side-by-side-kept, beside-sym}
 use Rattle.refusal.specs.declared.Verdict.{Verdict}
 use Rattle.refusal.specs.declared.Verdict.the-variants.{Passed, Refused}
 use Rattle.refusal.specs.Checks.{firstOf}

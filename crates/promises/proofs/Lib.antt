@@ -1,3 +1,4 @@
+pub mod Keeping
 mod Filled
 pub mod Chips
 pub mod Formed
@@ -15,3 +16,4 @@ pub mod Bytes
 pub mod Answers
 pub mod Calls
 pub mod Versions
+pub mod Edges

@@ -15,7 +15,7 @@ use Rattle.parts.specs.Part.{isPart, geometryOf}
 use Rattle.chip.specs.declared.Chip.{Chip}
 use Rattle.chip.specs.Chip as chip
 use Rattle.wellformed.specs.Wellformed as alone
-use Rattle.keeping.proofs.Wellformed.{fresh-is-well-formed}
+use Rattle.promises.proofs.Keeping.Wellformed.{fresh-is-well-formed}
 use Rattle.refusal.specs.declared.Verdict.{Verdict}
 use Rattle.refusal.specs.declared.Verdict.the-variants.{Passed, Refused}
 use Rattle.refusal.specs.Checks.{firstOf, isPassed}

@@ -2,7 +2,7 @@
 use Prim.Native.Nat.{ℕ}
 use mathlib.Core.List.{List}
 use Rattle.base.specs.Every.{Every, AllBytes}
-use Rattle.keeping.specs.Bytes.{ChipBytes}
+use Rattle.promises.specs.ChipBytes.{ChipBytes}
 use Rattle.bus.specs.declared.Bus.{Bus}
 
 pub record HoldsBytes (bus : Bus) (array security : List ℕ) : Type 0 where

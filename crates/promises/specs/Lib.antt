@@ -1,3 +1,5 @@
+pub mod ChipBytes
+pub mod ChipPlayed
 pub mod Own
 pub mod Playing
 pub mod Bytes

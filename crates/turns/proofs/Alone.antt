@@ -20,7 +20,7 @@ use Rattle.chip.specs.declared.Stepped.{Stepped}
 use Rattle.chip.specs.Chip as chip
 use Rattle.wellformed.specs.Wellformed.{isSetUp, countersFit, controlFits}
 use Rattle.wellformed.specs.Wellformed as own
-use Rattle.keeping.proofs.Lengths.{lengths-kept}
+use Rattle.promises.proofs.Keeping.Lengths.{lengths-kept}
 use Rattle.refusal.specs.declared.Verdict.the-variants.{Passed}
 use Rattle.refusal.specs.Checks.{firstOf}
 use Rattle.board.specs.declared.Place.{Place}

@@ -12,7 +12,7 @@ use Rattle.chip.specs.declared.event.Event.the-variants.{Start, Stop, Sent, Rea
 use Rattle.decode.specs.declared.Addressed.{Addressed}
 use Rattle.decode.specs.declared.Addressed.the-variants.{ToAll, ToOne}
 use Rattle.decode.specs.Decode.{kindOf, valueOf, unknownKind, valueAllowed, addressedOf}
-use Rattle.keeping.proofs.Beside.{isNamed}
+use Rattle.promises.proofs.Keeping.Beside.{isNamed}
 use Rattle.turns.specs.Turn.{isStart, isStop, isSent, isF8, isRead, isNaming}
 use Rattle.turns.specs.Alone.{renamed}
 

@@ -30,7 +30,7 @@ use Rattle.chip.specs.declared.event.Event.{Event}
 use Rattle.chip.specs.declared.event.Event.the-variants.{Start, Stop, Sent, Read, Wp, CycleOver, PowerUp}
 use Rattle.chip.specs.Chip.{step}
 use Rattle.wellformed.specs.Wellformed.{isSetUp, countersFit, placeFits, unusedBitsClear, busyNotChosen, controlFits, loadMost, wellFormed}
-use Rattle.keeping.proofs.Beside.{isNamed}
+use Rattle.promises.proofs.Keeping.Beside.{isNamed}
 use Rattle.turns.specs.Idle.{isAtRest}
 use Rattle.turns.proofs.Bystander.{woken}
 

@@ -14,7 +14,7 @@ use Rattle.decode.specs.declared.Addressed.the-variants.{ToAll, ToOne}
 use Rattle.decode.specs.Decode.{valueOf, reaches}
 use Rattle.decode.specs.Hearing.{clashesWith}
 use Rattle.lineup.specs.Chips.{chipAt, controlAt}
-use Rattle.keeping.proofs.Beside.{isNamed}
+use Rattle.promises.proofs.Keeping.Beside.{isNamed}
 use Rattle.bus.specs.Step.{step}
 use Rattle.bus.proofs.Entry.{entered}
 use Rattle.promises.specs.Playing.{World, afterOne}

@@ -19,7 +19,7 @@ use Rattle.control.proofs.Control as controls
 use Rattle.control.proofs.phase.Phase as phases
 use Rattle.chip.specs.declared.Chip.{Chip}
 use Rattle.chip.proofs.Typed.{ChipTyped}
-use Rattle.keeping.proofs.Typed.{load-typed}
+use Rattle.promises.proofs.Keeping.Typed.{load-typed}
 use Rattle.bus.specs.Setup.{emptyChip}
 use Rattle.bus.proofs.Typed.{OfItsType, bus-typed, chip-typed}
 use Rattle.promises.specs.Playing.{World}

@@ -28,7 +28,7 @@ use Rattle.chip.specs.declared.event.Event.the-variants.{Start, Stop, Sent, Rea
 use Rattle.chip.specs.Chip as chip
 use Rattle.wellformed.specs.Wellformed.{wellFormed}
 use Rattle.wellformed.specs.Beside.{isActive, notBothActive, waitsToo, sideBySide}
-use Rattle.keeping.proofs.Fits.{apart}
+use Rattle.promises.proofs.Keeping.Fits.{apart}
 
 -- a test that fails
 abbrev Never : Bool → Type 0

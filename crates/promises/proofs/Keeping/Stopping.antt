@@ -18,8 +18,8 @@ use Rattle.control.specs.Exchange.{standbyNow, busyNow}
 use Rattle.control.specs.Bits.{configlock}
 use Rattle.configuration.specs.Configuration.{confirms, stopConfiguration}
 use Rattle.cycle.specs.Stop.{writesArray, writesSecurity, stopData, stopIn}
-use Rattle.keeping.proofs.Fits.{Fits, idlocked-fits, configured-fits}
-use Rattle.keeping.proofs.Good.{standby-now-fits, busy-now-fits}
+use Rattle.promises.proofs.Keeping.Fits.{Fits, idlocked-fits, configured-fits}
+use Rattle.promises.proofs.Keeping.Good.{standby-now-fits, busy-now-fits}
 
 -- a Stop: whatever it does, the load is gone after it
 came-fits : (came : Came) (c : Control) → Fits c → Fits (stopConfiguration came c)

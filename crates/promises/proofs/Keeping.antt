@@ -1,3 +1,4 @@
+-- What every event keeps of one chip, and of two chips side by side.
 mod Fits
 mod Good
 mod Taking

@@ -46,11 +46,11 @@ use Rattle.chip.specs.declared.event.Event.{Event}
 use Rattle.chip.specs.Chip.{step}
 use Rattle.chip.proofs.Typed.{ChipTyped}
 use Rattle.wellformed.specs.Wellformed.{idPlaceFits, placeFits, wellFormed}
-use Rattle.keeping.specs.Bytes.{bytesCame, bytesTaken, bytesAwaiting, bytesIn, ChipBytes, EventByte}
-use Rattle.keeping.proofs.Bytes.{chip-keeps-bytes}
-use Rattle.keeping.proofs.Fits.{Fits, apart}
-use Rattle.keeping.proofs.Loads.{load-keeps}
-use Rattle.keeping.proofs.Wellformed.{kept}
+use Rattle.promises.specs.ChipBytes.{bytesCame, bytesTaken, bytesAwaiting, bytesIn, ChipBytes, EventByte}
+use Rattle.promises.proofs.Keeping.Bytes.{chip-keeps-bytes}
+use Rattle.promises.proofs.Keeping.Fits.{Fits, apart}
+use Rattle.promises.proofs.Keeping.Loads.{load-keeps}
+use Rattle.promises.proofs.Keeping.Wellformed.{kept}
 
 -- ---- a value of its type holds bytes: what a field of type `u8` denotes is below 256
 came-bytes : (came : Came) (vs : List Val) → Is cames.the-row came vs → AllBytes (bytesCame came)

@@ -20,9 +20,9 @@ use Rattle.control.specs.declared.phase.Source.the-variants.{FromArray, FromSec
 use Rattle.control.specs.Control.{inPhase}
 use Rattle.sending.specs.Sending.{nextIdPlace, movedPast, readIn}
 use Rattle.wellformed.specs.Wellformed.{idPlaceFits}
-use Rattle.keeping.proofs.Fits.{Fits, in-phase-fits, array-fits, security-fits}
+use Rattle.promises.proofs.Keeping.Fits.{Fits, in-phase-fits, array-fits, security-fits}
 use Rattle.load.specs.Load.{empty}
-use Rattle.keeping.proofs.Good.{Good, standby}
+use Rattle.promises.proofs.Keeping.Good.{Good, standby}
 
 -- a byte read: the place in the ID stops at its end, and counters go round
 next-id-fits : (place : ℕ) → leb (nextIdPlace place) 3 ≡ true

@@ -43,9 +43,9 @@ use Rattle.chip.specs.declared.Chip.{Chip}
 use Rattle.chip.specs.declared.event.Event.{Event}
 use Rattle.chip.specs.declared.event.Event.the-variants.{Start, Stop, Sent, Read, Wp, CycleOver, PowerUp}
 use Rattle.chip.specs.Chip as chip
-use Rattle.keeping.specs.Bytes.{bytesCame, bytesIn, ControlBytes, ChipBytes, SaidByte, EventByte, StepBytes}
-use Rattle.keeping.proofs.Loads.{load-keeps}
-use Rattle.keeping.proofs.Shares.{shares-keep}
+use Rattle.promises.specs.ChipBytes.{bytesCame, bytesIn, ControlBytes, ChipBytes, SaidByte, EventByte, StepBytes}
+use Rattle.promises.proofs.Keeping.Loads.{load-keeps}
+use Rattle.promises.proofs.Keeping.Shares.{shares-keep}
 
 -- what a chip makes of a byte sent or read
 abbrev Answers : Answered → Type 0

@@ -14,7 +14,7 @@ use Rattle.control.specs.Phase.{isBusy}
 use Rattle.control.specs.Control.{inPhase, choosing}
 use Rattle.control.specs.Exchange.{standbyNow, busyNow}
 use Rattle.wellformed.specs.Wellformed.{loadMost}
-use Rattle.keeping.proofs.Fits.{Fits, in-phase-fits, choosing-fits}
+use Rattle.promises.proofs.Keeping.Fits.{Fits, in-phase-fits, choosing-fits}
 use Rattle.load.specs.Load.{empty}
 
 -- the clauses of a chip and of the load it holds

@@ -17,7 +17,7 @@ use Rattle.chip.specs.declared.Chip.{Chip}
 use Rattle.chip.specs.declared.event.Event.{Event}
 use Rattle.chip.specs.declared.event.Event.the-variants.{Start, Stop, Sent, Read, Wp, CycleOver, PowerUp}
 use Rattle.chip.specs.Chip as chip
-use Rattle.keeping.specs.Bytes.{EventByte}
+use Rattle.promises.specs.ChipBytes.{EventByte}
 
 module _ (c : Chip) (array security : List ℕ) (P : Load → Type 0) (now : P (c .load)) (without : P (emptied (c .load))) (with : (at byte : ℕ) → FitsByte byte → P (put (geometryOf (c .control .part)) at byte (c .load))) where
   to-data : (kind : Data) (byte : ℕ) → FitsByte byte → P (loadedData kind (c .load) (c .control) byte)

@@ -14,7 +14,7 @@ use Rattle.cycle.specs.Stop.{writesArray, writesSecurity, stopData}
 use Rattle.chip.specs.declared.Chip.{Chip}
 use Rattle.chip.specs.declared.event.Event.{Event}
 use Rattle.chip.specs.Chip.{step}
-use Rattle.keeping.proofs.Shares.{shares-keep}
+use Rattle.promises.proofs.Keeping.Shares.{shares-keep}
 
 -- both shares are as long as two others
 abbrev pub Long : List ℕ → List ℕ → List ℕ → List ℕ → Type 0

@@ -20,15 +20,15 @@ use Rattle.chip.specs.declared.event.Event.{Event}
 use Rattle.chip.specs.declared.event.Event.the-variants.{Start, Stop, Sent, Read, Wp, CycleOver, PowerUp}
 use Rattle.chip.specs.Chip as chip
 use Rattle.wellformed.specs.Wellformed.{wellFormed}
-use Rattle.keeping.proofs.Fits.{Fits, apart, together, in-phase-fits, showing-fits, array-fits, security-fits, wp-fits}
+use Rattle.promises.proofs.Keeping.Fits.{Fits, apart, together, in-phase-fits, showing-fits, array-fits, security-fits, wp-fits}
 use Rattle.wellformed.specs.Wellformed.{isSetUp, controlFits}
 use Rattle.load.specs.Load.{empty}
 use Rattle.control.specs.Control as control
 use Rattle.parts.proofs.part.Laws.{array-some}
-use Rattle.keeping.proofs.Good.{Good, dropped, standby, emptied-good}
-use Rattle.keeping.proofs.Taking.{take-good}
-use Rattle.keeping.proofs.Sending.{read-good}
-use Rattle.keeping.proofs.Stopping.{stop-fits}
+use Rattle.promises.proofs.Keeping.Good.{Good, dropped, standby, emptied-good}
+use Rattle.promises.proofs.Keeping.Taking.{take-good}
+use Rattle.promises.proofs.Keeping.Sending.{read-good}
+use Rattle.promises.proofs.Keeping.Stopping.{stop-fits}
 
 -- the clauses hold of a chip exactly when the test does
 good-of : (c : Chip) → wellFormed c ≡ true → Good (c .control) (c .load)

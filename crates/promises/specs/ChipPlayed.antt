@@ -6,6 +6,6 @@ use Rattle.chip.specs.declared.event.Event.{Event}
 use Rattle.chip.specs.Chip.{step}
 
 -- the chip and what it said last, with its shares
-abbrev pub played : List Event → Stepped × List ℕ × List ℕ → Stepped × List ℕ × List ℕ
-played [] at = at
-played (event ∷ events) at = played events (step (at .0 .chip) (at .1) (at .2) event)
+abbrev pub chipPlayed : List Event → Stepped × List ℕ × List ℕ → Stepped × List ℕ × List ℕ
+chipPlayed [] at = at
+chipPlayed (event ∷ events) at = chipPlayed events (step (at .0 .chip) (at .1) (at .2) event)

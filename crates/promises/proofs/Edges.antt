@@ -25,7 +25,7 @@ use Rattle.board.specs.declared.Place.{Place}
 use Rattle.board.specs.Place.{nowhere}
 use Rattle.board.specs.Shares.{arrayStart, securityStart}
 use Rattle.bus.specs.Setup.{setUp}
-use Rattle.edges.specs.Played.{played}
+use Rattle.promises.specs.ChipPlayed.{chipPlayed}
 
 abbrev m01 : ℕ
 m01 = 1
@@ -35,7 +35,7 @@ cs32 = 2
 
 -- a 24CS32 at strap 0 that holds 5Ah at 000h, C3h at FFFh, and FFh elsewhere, after some events
 abbrev after : List Event → Stepped × List ℕ × List ℕ
-after events = played events (quiet (fresh cs32 0), set (set (replicate 4096 0xFF) 0x000 0x5A) 0xFFF 0xC3, replicate 64 0xFF)
+after events = chipPlayed events (quiet (fresh cs32 0), set (set (replicate 4096 0xFF) 0x000 0x5A) 0xFFF 0xC3, replicate 64 0xFF)
 
 -- what it holds at an address of its array
 abbrev holdsAt : ℕ → List Event → ℕ
@@ -76,7 +76,7 @@ nextAddress confirmation = replyOf 0x00 (locking confirmation (Start ∷ Sent 0x
 
 -- the array counter of a 24CSM01 at strap 2 after an address byte and the word address 0000h
 abbrev counterBy : ℕ → ℕ
-counterBy byte = played (Start ∷ Sent byte ∷ Sent 0x00 ∷ Sent 0x00 ∷ []) (quiet (fresh m01 2), [], []) .0 .chip .control .arraycounter
+counterBy byte = chipPlayed (Start ∷ Sent byte ∷ Sent 0x00 ∷ Sent 0x00 ∷ []) (quiet (fresh m01 2), [], []) .0 .chip .control .arraycounter
 
 -- a 24CSM01 and a 24CS32 on one board with stores that fit, and what set-up answers
 abbrev place : ℕ → ℕ → Place

@@ -34,9 +34,9 @@ use Rattle.wordaddress.specs.declared.Register.the-variants.{Security, Configur
 use Rattle.wordaddress.specs.WordAddress.{registerOf, isLock, takeNamed, takeWord}
 use Rattle.taking.specs.Taking.{takeData, takeIn, loadedData, loadedIn}
 use Rattle.wellformed.specs.Wellformed.{idPlaceFits}
-use Rattle.keeping.proofs.Fits.{Fits, in-phase-fits, showing-fits, choosing-fits, array-fits, security-fits}
+use Rattle.promises.proofs.Keeping.Fits.{Fits, in-phase-fits, showing-fits, choosing-fits, array-fits, security-fits}
 use Rattle.load.specs.Load.{empty}
-use Rattle.keeping.proofs.Good.{Good, page, dropped, standby, begins}
+use Rattle.promises.proofs.Keeping.Good.{Good, page, dropped, standby, begins}
 
 source-fits : (shown : Shown) → idPlaceFits (sourceOf shown) ≡ true
 source-fits ShowsSecurity = refl

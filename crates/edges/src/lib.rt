@@ -1,1 +1,0 @@
-// No code: theorems about the definitions, in proofs/.

@@ -1,1 +1,0 @@
-// No code: what every event keeps, as theorems in proofs/.

@@ -1,10 +1,10 @@
 // Blocks of text: what has been read is answered before the program waits for more.
 use conversation::Heard;
-use conversation::MALFORMED;
 use conversation::tape::keep_rest;
 use libc::STDIN_FILENO;
 use libc::STDOUT_FILENO;
 use print::closing;
+use transcript::frame::MALFORMED;
 ghost use Prim.Native.Nat.{_<_};
 ghost use mathlib.Core.Path.{_≡_};
 ghost use mathlib.Core.Bool.{true};

@@ -16,14 +16,16 @@ use factory::erased_arrays;
 use factory::erased_registers;
 use factory::mark_serials;
 use placing::layout::Board;
+use print::PRINTED_BYTES;
 use refusal::Verdict;
 use refusal::number_of;
+use transcript::frame::FRAME_BYTES;
 ghost use Prim.Native.Nat.{_≤_};
 
 // A block of text, and room for the answers to its lines and for the line that ends a run.
 const TAPE: usize = 20_480;
 
-const SAID: usize = 36_873;
+const SAID: usize = TAPE / FRAME_BYTES * PRINTED_BYTES + PRINTED_BYTES;
 
 // The state stands here from the first block to the last.
 fn answer_input(bus: Bus, array: &mut [u8], security: &mut [u8], tape: &mut [u8], said: &mut [u8]) {

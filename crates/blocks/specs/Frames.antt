@@ -12,25 +12,25 @@ use Rattle.refusal.specs.Refusal.{answerWord}
 use Rattle.bus.specs.declared.Bus.{Bus}
 use Rattle.bus.specs.declared.Stepped.{Stepped}
 use Rattle.bus.specs.Step.{step}
-use Rattle.transcript.specs.Frame.{isFrameAt, eventAt}
-use Rattle.print.specs.Print.{printed, closing}
+use Rattle.transcript.specs.Frame.{frameBytes, malformed, isFrameAt, eventAt}
+use Rattle.print.specs.Print.{printedBytes, printed, closing}
 use Rattle.conversation.specs.Talk.{unfinished, roomIn, laidOn, Left}
 use Rattle.conversation.specs.declared.Heard.{Heard}
 
 -- a text begins with k lines
 abbrev pub Frames : List ℕ → ℕ → Type 0
-Frames text k = (j : ℕ) → j < k → isFrameAt text (j * 5) ≡ true
+Frames text k = (j : ℕ) → j < k → isFrameAt text (j * frameBytes) ≡ true
 
 -- it begins with k lines, and what is left behind them is no line: a malformed one, or one without LF
 pub record NoFrameAfter (text : List ℕ) (k : ℕ) : Type 0 where
   pub frames : Frames text k
-  pub left : k * 5 < length text
-  pub none : isFrameAt text (k * 5) ≡ false
+  pub left : k * frameBytes < length text
+  pub none : isFrameAt text (k * frameBytes) ≡ false
 
 -- and it cannot become a line either, whatever comes behind the text (`malformed-exactly-when`)
 pub record MalformedAfter (text : List ℕ) (k : ℕ) : Type 0 where
   pub no-frame : NoFrameAfter text k
-  pub never : unfinished text (k * 5) ≡ false
+  pub never : unfinished text (k * frameBytes) ≡ false
 
 -- a conversation is ended by a malformed line, where the buffer has room for its answer behind those of the lines before it
 abbrev pub TalkEnds : List ℕ → List ℕ → Type 0
@@ -38,7 +38,7 @@ TalkEnds text buffer = (k : ℕ) × MalformedAfter text k × (k + 1 ≤ roomIn b
 
 -- or lines are answered until the room is used up, or until nothing is left but what may still become a line
 abbrev pub TalkPauses : List ℕ → List ℕ → Type 0
-TalkPauses text buffer = (k : ℕ) × Frames text k × (k ≤ roomIn buffer) × ((k ≡ roomIn buffer) ⊎ (unfinished text (k * 5) ≡ true))
+TalkPauses text buffer = (k : ℕ) × Frames text k × (k ≤ roomIn buffer) × ((k ≡ roomIn buffer) ⊎ (unfinished text (k * frameBytes) ≡ true))
 
 -- a whole transcript is ended by anything that is no line
 abbrev pub WholeEnds : List ℕ → List ℕ → Type 0
@@ -46,7 +46,7 @@ WholeEnds text buffer = (k : ℕ) × NoFrameAfter text k × (k + 1 ≤ roomIn bu
 
 -- or lines are answered until the room is used up, or until nothing is left
 abbrev pub WholePauses : List ℕ → List ℕ → Type 0
-WholePauses text buffer = (k : ℕ) × Frames text k × (k ≤ roomIn buffer) × ((k ≡ roomIn buffer) ⊎ (k * 5 ≡ length text))
+WholePauses text buffer = (k : ℕ) × Frames text k × (k ≤ roomIn buffer) × ((k ≡ roomIn buffer) ⊎ (k * frameBytes ≡ length text))
 
 -- the bus and both stores, and all that was answered
 pub record Spoken : Type 0 where
@@ -68,17 +68,17 @@ eventSpoken event world = stepSpoken event world (step (world .bus) (world .arra
 
 -- the events of the first k lines, one after the other
 abbrev pub afterFrames : List ℕ → ℕ → Spoken → Spoken
-afterFrames text k world = upTo (λ (j : ℕ). eventSpoken (eventAt text (j * 5))) k world
+afterFrames text k world = upTo (λ (j : ℕ). eventSpoken (eventAt text (j * frameBytes))) k world
 
 -- what a conversation leaves where k lines were answered, and it is not over
 abbrev pub pausedAfter : ℕ → Spoken → List ℕ → Left
 pausedAfter k world buffer =
-    (record { used = k * 5; written = k * 9; over = false }, world .bus, world .array, world .security, laidOn buffer (world .said))
+    (record { used = k * frameBytes; written = k * printedBytes; over = false }, world .bus, world .array, world .security, laidOn buffer (world .said))
 
 -- and where FFFF0900 was said behind them: it is over, and the rest of the text is passed
 abbrev pub endedAfter : List ℕ → ℕ → Spoken → List ℕ → Left
 endedAfter text k world buffer =
-    (record { used = length text; written = (k + 1) * 9; over = true }, world .bus, world .array, world .security, laidOn buffer (world .said ++ closing 9))
+    (record { used = length text; written = (k + 1) * printedBytes; over = true }, world .bus, world .array, world .security, laidOn buffer (world .said ++ closing malformed))
 
 -- a whole transcript leaves the same but for the bus, which serves for nothing else
 abbrev pub WholeLeft : Type 0
@@ -89,4 +89,4 @@ withoutBus left = (left .0, left .2, left .3, left .4)
 
 -- FFFF0900 is among the lines that were said
 abbrev pub SaysNine : Heard → List ℕ → Type 0
-SaysNine heard buffer = (j : ℕ) × (j * 9 + 9 ≤ heard .written) × (span (j * 9) 9 buffer ≡ closing 9)
+SaysNine heard buffer = (j : ℕ) × (j * printedBytes + printedBytes ≤ heard .written) × (span (j * printedBytes) printedBytes buffer ≡ closing malformed)

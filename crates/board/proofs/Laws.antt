@@ -12,10 +12,14 @@ use Rattle.base.specs.Fold.{upTo}
 use Rattle.base.proofs.Fold.{and-left, and-right}
 use Rattle.base.proofs.number.Laws.{least-first, least-most}
 use Rattle.parts.specs.Address.{codesOf, firstCode}
+use Rattle.parts.specs.Part.{geometryOf}
+use Rattle.parts.proofs.part.Laws.{sound-of}
 use Rattle.board.specs.declared.Place.{Place}
 use Rattle.board.specs.Place.{placeAt, placed}
 use Rattle.board.specs.Board.{wrongCount, sharedAddress}
-use Rattle.board.specs.Shares.{figuresAt}
+use Rattle.board.specs.declared.shares.Region.{Region}
+use Rattle.board.specs.declared.shares.Region.the-variants.{Array, Security}
+use Rattle.board.specs.Shares.{figuresAt, sizeIn}
 
 pub placed-most : (count : ℕ) → placed count ≤ 4
 placed-most count = least-most count 4 .1
@@ -27,6 +31,11 @@ right-count count right =
 
 pub placed-all : (count : ℕ) → wrongCount count ≡ false → placed count ≡ count
 placed-all count right = least-first count 4 (right-count count right .1)
+
+-- every share is small
+pub size-most : (region : Region) (part : ℕ) {size : ℕ} → size ≡ sizeIn region (geometryOf part) → size ≤ 2 ^ 24
+size-most Array part is = omega (arith, is, sound-of part .array-most)
+size-most Security part is = omega (arith, is, sound-of part .security-most)
 
 -- a sum of shares, over any figure of the parts
 abbrev pub startOf : (ℕ → ℕ) → ℕ → ℕ

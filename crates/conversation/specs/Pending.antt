@@ -9,15 +9,15 @@ use Rattle.refusal.specs.declared.Answer.{Answer}
 use Rattle.refusal.specs.Refusal.{answerWord}
 use Rattle.transcript.specs.declared.frame.Frame.{Frame}
 use Rattle.transcript.specs.declared.frame.Frame.the-variants.{Event, Malformed, End}
-use Rattle.transcript.specs.Frame.{frameAt, meaning}
-use Rattle.print.specs.Print.{printed, closing}
+use Rattle.transcript.specs.Frame.{malformed, frameAt}
+use Rattle.print.specs.Print.{printedBytes, printed, closing}
 use Rattle.conversation.specs.declared.Heard.{Heard}
 use Rattle.conversation.specs.declared.pending.Pending.{Pending}
 use Rattle.conversation.specs.Talk.{unfinished}
 
 -- an answer has room after what was written
 abbrev pub hasRoom : List ℕ → ℕ → Bool
-hasRoom buffer written = leb (written + 9) (length buffer)
+hasRoom buffer written = leb (written + printedBytes) (length buffer)
 
 -- no event is to be played: the text ends here, or its last line is unfinished, or there is no room
 abbrev pub paused : ℕ → ℕ → Pending
@@ -28,12 +28,12 @@ abbrev pub toPlay : ℕ → ℕ → ℕ → Pending
 toPlay event next written = record { more = true; event = event; at = next; written = written; over = false }
 
 abbrev pub lastPending : List ℕ → ℕ → Pending
-lastPending text written = record { more = false; event = 0; at = length text; written = written + 9; over = true }
+lastPending text written = record { more = false; event = 0; at = length text; written = written + printedBytes; over = true }
 
 abbrev pub pendingBy : Frame → List ℕ → ℕ → List ℕ → ℕ → Pending × List ℕ
 pendingBy (Event event next) text at buffer written = (toPlay event next written, buffer)
 pendingBy Malformed text at buffer written =
-    cond (unfinished text at) (paused at written, buffer) (lastPending text written, patched written (closing (meaning Malformed at .status)) buffer)
+    cond (unfinished text at) (paused at written, buffer) (lastPending text written, patched written (closing malformed) buffer)
 pendingBy End text at buffer written = (paused at written, buffer)
 
 -- what is pending at a place of the text, and the buffer, which has FFFF0900 where a malformed line stands there
@@ -44,7 +44,7 @@ pendingAt text at buffer written = cond (hasRoom buffer written) (pendingBy (fra
 unfoldable pub nextPending : List ℕ → Pending → Answer → List ℕ → Pending × List ℕ
 nextPending text pending answer buffer =
     cond (hasRoom buffer (pending .written))
-    (pendingAt text (pending .at) (patched (pending .written) (printed (pending .event) (answerWord answer)) buffer) (pending .written + 9))
+    (pendingAt text (pending .at) (patched (pending .written) (printed (pending .event) (answerWord answer)) buffer) (pending .written + printedBytes))
     (paused (pending .at) (pending .written), buffer)
 
 abbrev pub heardOf : Pending → Heard
@@ -55,5 +55,5 @@ unfoldable pub finished : List ℕ → Heard → List ℕ → Heard × List ℕ
 finished text heard buffer =
     cond (leb (length text) (heard .used)) (heard, buffer)
     (cond (hasRoom buffer (heard .written))
-    (heardOf (lastPending text (heard .written)), patched (heard .written) (closing (meaning Malformed (heard .used) .status)) buffer)
+    (heardOf (lastPending text (heard .written)), patched (heard .written) (closing malformed) buffer)
     (heard, buffer))

@@ -13,8 +13,8 @@ use Rattle.bus.specs.Step.{step}
 use Rattle.transcript.specs.declared.frame.Frame.{Frame}
 use Rattle.transcript.specs.declared.frame.Frame.the-variants.{Event, Malformed, End}
 use Rattle.transcript.specs.Digit.{isDigit}
-use Rattle.transcript.specs.Frame.{frameAt, meaning}
-use Rattle.print.specs.Print.{printed, closing}
+use Rattle.transcript.specs.Frame.{frameBytes, malformed, frameAt}
+use Rattle.print.specs.Print.{printedBytes, printed, closing}
 use Rattle.conversation.specs.declared.Heard.{Heard}
 
 -- the bus and both stores, the answers so far, the place in the text, and whether a malformed line has ended the run
@@ -37,12 +37,12 @@ answered event next talk world =
 
 -- what is left from a place on may still become a line: it is shorter than one, and all of it digits
 abbrev pub unfinished : List ℕ → ℕ → Bool
-unfinished text at = ltb (length text - at) 5 && allBelow (λ (i : ℕ). isDigit (getD text (at + i) 0)) (length text - at)
+unfinished text at = ltb (length text - at) frameBytes && allBelow (λ (i : ℕ). isDigit (getD text (at + i) 0)) (length text - at)
 
 -- FFFF0900, and nothing after it is heard
 abbrev pub ended : List ℕ → Talk → Talk
 ended text talk =
-    record { bus = talk .bus; array = talk .array; security = talk .security; said = talk .said ++ closing (meaning Malformed (talk .at) .status); at = length text; over = true }
+    record { bus = talk .bus; array = talk .array; security = talk .security; said = talk .said ++ closing malformed; at = length text; over = true }
 
 abbrev pub byFrame : Frame → List ℕ → Talk → Talk
 byFrame (Event event next) text talk = answered event next talk (step (talk .bus) (talk .array) (talk .security) event)
@@ -59,7 +59,7 @@ hear text n talk = upTo (λ (i : ℕ). hearFrame text) n talk
 
 -- how many answers a buffer has room for
 abbrev pub roomIn : List ℕ → ℕ
-roomIn buffer = length buffer / 9
+roomIn buffer = length buffer / printedBytes
 
 -- what a conversation tells: how much of the text is used, how much was said, whether it is over
 abbrev pub heardIn : Talk → Heard

@@ -2,7 +2,6 @@
 mod pending;
 pub mod tape;
 
-pub use crate::pending::MALFORMED;
 use crate::pending::finish;
 use crate::pending::first_pending;
 use crate::pending::heard_of;

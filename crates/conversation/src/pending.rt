@@ -2,7 +2,7 @@
 use crate::Heard;
 use crate::tape::text_end;
 use base::logic::and;
-use print::PRINTED;
+use print::PRINTED_BYTES;
 use print::closing;
 use print::printed;
 use reader::read_frame;
@@ -10,18 +10,17 @@ use refusal::Answer;
 use refusal::answer_word;
 use transcript::digit::DIGITS;
 use transcript::digit::digit_of;
-use transcript::frame::FRAME;
+use transcript::frame::FRAME_BYTES;
 use transcript::frame::Frame;
+use transcript::frame::MALFORMED;
 ghost use Prim.Native.Nat.{_+_, _≤_};
 ghost use mathlib.Core.Path.{_≡_};
 ghost use lib.ListN.{length};
 ghost use Rattle.base.specs.Store.{patched};
+ghost use Rattle.print.specs.Print.{printedBytes};
 ghost use Rattle.conversation.specs.Talk.{unfinished};
 ghost use Rattle.conversation.specs.Tape.{textOn};
 ghost use Rattle.conversation.specs.Pending.{hasRoom, paused, pendingBy, pendingAt, nextPending, heardOf, finished};
-
-// The paper's number for a malformed line.
-pub const MALFORMED: u8 = 9;
 
 pub struct Pending {
     pub more: bool,
@@ -46,10 +45,10 @@ fn paused(at: usize, written: usize) -> Pending
 fn has_room(said: &[u8], written: usize) -> bool
     ensures { λ r. ⌜ r ≡ hasRoom (now (said .entry)) written ⌝ }
 {
-    if said.len() < PRINTED {
+    if said.len() < PRINTED_BYTES {
         return false;
     }
-    written <= said.len() - PRINTED
+    written <= said.len() - PRINTED_BYTES
 }
 
 // Whether the bytes from a place on may still become a line: fewer than a line has, and all digits.
@@ -58,7 +57,7 @@ fn is_unfinished(text: &[u8], at: usize) -> bool
     ensures { λ r. ⌜ r ≡ unfinished (now (text .entry)) at ⌝ }
 {
     let left = text.len() - at;
-    if FRAME <= left {
+    if FRAME_BYTES <= left {
         return false;
     }
     let mut digits = true;
@@ -71,8 +70,8 @@ fn is_unfinished(text: &[u8], at: usize) -> bool
 }
 
 // A line or the answer to one, in its place.
-fn put(line: [u8; PRINTED], said: &mut [u8], written: usize)
-    requires { ⌜ written + 9 ≤ length (now said) ⌝ }
+fn put(line: [u8; PRINTED_BYTES], said: &mut [u8], written: usize)
+    requires { ⌜ written + printedBytes ≤ length (now said) ⌝ }
     ensures { λ _. ⌜ now (said .exit) ≡ patched written line (now (said .entry)) ⌝ }
 {
     bytes::copy(&line, &mut said[written..]);
@@ -81,7 +80,7 @@ fn put(line: [u8; PRINTED], said: &mut [u8], written: usize)
 // No line stands at the place. What may still become one waits for more.
 fn pending_without_frame(text: &[u8], at: usize, said: &mut [u8], written: usize) -> Pending
     requires { ⌜ at ≤ length (now text) ⌝ }
-    requires { ⌜ written + 9 ≤ length (now said) ⌝ }
+    requires { ⌜ written + printedBytes ≤ length (now said) ⌝ }
     ensures { λ r. ⌜ (r, now (said .exit)) ≡ pendingBy Frame.Malformed (now (text .entry)) at (now (said .entry)) written ⌝ }
 {
     if is_unfinished(text, at) {
@@ -92,7 +91,7 @@ fn pending_without_frame(text: &[u8], at: usize, said: &mut [u8], written: usize
         more: false,
         event: 0,
         at: text.len(),
-        written: written + PRINTED,
+        written: written + PRINTED_BYTES,
         over: true,
     }
 }
@@ -140,7 +139,7 @@ pub fn next_pending(
     }
     put(printed(pending.event, answer_word(answer)), said, written);
     let end = text_end(tape, filled);
-    pending_at(&tape[..end], at, said, written + PRINTED)
+    pending_at(&tape[..end], at, said, written + PRINTED_BYTES)
 }
 
 pub fn heard_of(pending: Pending) -> Heard
@@ -168,7 +167,7 @@ pub fn finish(heard: Heard, tape: &[u8], filled: usize, said: &mut [u8]) -> Hear
     put(closing(MALFORMED), said, written);
     Heard {
         used: end,
-        written: written + PRINTED,
+        written: written + PRINTED_BYTES,
         over: true,
     }
 }

@@ -3,32 +3,33 @@ use board::PLACES;
 use board::Place;
 use board::placed;
 use board::shares::security_start;
+use parts::part::Part24CSM01;
 ghost use Prim.Native.Nat.{_≤_, _^_};
 ghost use mathlib.Core.Path.{_≡_};
 ghost use lib.ListN.{set, length};
-ghost use Rattle.factory.specs.Memory.{erased};
+ghost use Rattle.factory.specs.Memory.{erased, arraysSize, registersSize};
 ghost use Rattle.factory.specs.Serial.{marked, serialByte, serials};
 
 // A byte of an erased memory.
 const ERASED: u8 = 0xFF;
 
 // Four arrays, and four security registers, of the largest part.
-const ARRAYS: usize = 524_288;
+const ARRAYS: usize = PLACES * Part24CSM01::ARRAY as usize;
 
-const REGISTERS: usize = 2_048;
+const REGISTERS: usize = PLACES * Part24CSM01::SECURITY as usize;
 
 // The arrays of the largest board, erased. The length is said by itself, so that no caller has to count the bytes.
 pub fn erased_arrays() -> [u8; ARRAYS]
-    ensures { λ r. ⌜ 524288 ≡ length r ⌝ }
-    ensures { λ r. ⌜ r ≡ erased 524288 ⌝ }
+    ensures { λ r. ⌜ arraysSize ≡ length r ⌝ }
+    ensures { λ r. ⌜ r ≡ erased arraysSize ⌝ }
 {
     [ERASED; ARRAYS]
 }
 
 // Its security registers likewise.
 pub fn erased_registers() -> [u8; REGISTERS]
-    ensures { λ r. ⌜ 2048 ≡ length r ⌝ }
-    ensures { λ r. ⌜ r ≡ erased 2048 ⌝ }
+    ensures { λ r. ⌜ registersSize ≡ length r ⌝ }
+    ensures { λ r. ⌜ r ≡ erased registersSize ⌝ }
 {
     [ERASED; REGISTERS]
 }

@@ -16,6 +16,10 @@ byteText byte = digitText (byte / 16) ∷ digitText (byte % 16) ∷ []
 abbrev pub wordText : ℕ → List ℕ
 wordText word = byteText (highOf word) ++ byteText (lowOf word)
 
+-- the bytes of an event and its answer
+abbrev pub printedBytes : ℕ
+printedBytes = 9
+
 abbrev pub printed : ℕ → ℕ → List ℕ
 printed event answer = wordText event ++ (wordText answer ++ (lf ∷ []))
 

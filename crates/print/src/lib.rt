@@ -8,7 +8,7 @@ ghost use Prim.Native.Nat.{_<_};
 ghost use Rattle.print.specs.Print.{digitText, printed, closing};
 
 // How many bytes an event and its answer have as text.
-pub const PRINTED: usize = 9;
+pub const PRINTED_BYTES: usize = 9;
 
 // What stands for kind and value where no event was read.
 const NO_EVENT: u16 = 0xFFFF;
@@ -31,7 +31,7 @@ fn digit_text(value: u16) -> u8
     }
 }
 
-pub fn printed(event: u16, answer: u16) -> [u8; PRINTED]
+pub fn printed(event: u16, answer: u16) -> [u8; PRINTED_BYTES]
     ensures { λ r. ⌜ r ≡ printed event answer ⌝ }
 {
     let kind = event / BYTE;
@@ -52,7 +52,7 @@ pub fn printed(event: u16, answer: u16) -> [u8; PRINTED]
 }
 
 // The line that ends a run: no event, the number of a refusal, reply 00.
-pub fn closing(number: u8) -> [u8; PRINTED]
+pub fn closing(number: u8) -> [u8; PRINTED_BYTES]
     ensures { λ r. ⌜ r ≡ closing number ⌝ }
 {
     printed(NO_EVENT, word_of(number, 0))

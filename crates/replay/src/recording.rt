@@ -10,7 +10,7 @@ use factory::erased_registers;
 use factory::mark_serials;
 use libc::STDOUT_FILENO;
 use placing::layout::Board;
-use print::PRINTED;
+use print::PRINTED_BYTES;
 use print::closing;
 use refusal::Verdict;
 use refusal::number_of;
@@ -89,10 +89,10 @@ fn answers_on(
     match verdict {
         Verdict::Refused(refusal) => {
             let line = closing(number_of(refusal));
-            if PRINTED <= said.len() {
+            if PRINTED_BYTES <= said.len() {
                 bytes::copy(&line, said);
             }
-            PRINTED
+            PRINTED_BYTES
         }
         Verdict::Passed => answer_all(bus, array, security, tape, filled, said).written,
     }
@@ -115,7 +115,7 @@ fn same_until(one: &[u8], other: &[u8]) -> usize {
 
 // The number of the line that a place lies in, the first being 1.
 fn line_number(place: usize) -> u64 {
-    (place / PRINTED) as u64 + 1
+    (place / PRINTED_BYTES) as u64 + 1
 }
 
 fn tell(name: &[u8], what: &[u8]) {

@@ -7,8 +7,11 @@ ghost use Rattle.transcript.specs.Frame.{isFrame, eventWord, frameAt};
 
 pub const LF: u8 = 10;
 
+// The paper's number for a malformed line.
+pub const MALFORMED: u8 = 9;
+
 // How many bytes a line has.
-pub const FRAME: usize = 5;
+pub const FRAME_BYTES: usize = 5;
 
 // What stands at a place of a transcript. The paper's number and values of each case: `meaning`, in specs/Frame.antt.
 pub enum Frame {
@@ -54,7 +57,7 @@ pub fn frame_at(text: &[u8], at: usize) -> Frame
     if text.len() <= at {
         return Frame::End;
     }
-    if text.len() - at < FRAME {
+    if text.len() - at < FRAME_BYTES {
         return Frame::Malformed;
     }
     frame_of(
@@ -63,6 +66,6 @@ pub fn frame_at(text: &[u8], at: usize) -> Frame
         text[at + 2],
         text[at + 3],
         text[at + 4],
-        at + FRAME,
+        at + FRAME_BYTES,
     )
 }

@@ -6,10 +6,6 @@ mod block;
 use arguments::read_arguments;
 use block::next_block;
 use block::read_block;
-use board::PLACES;
-use board::Place;
-use board::shares::array_start;
-use board::shares::security_start;
 use bus::Bus;
 use conversation::converse;
 use factory::erased_arrays;
@@ -20,7 +16,6 @@ use print::PRINTED_BYTES;
 use refusal::Verdict;
 use refusal::number_of;
 use transcript::frame::FRAME_BYTES;
-ghost use Prim.Native.Nat.{_≤_};
 
 // A block of text, and room for the answers to its lines and for the line that ends a run.
 const TAPE: usize = 20_480;
@@ -38,7 +33,9 @@ fn answer_input(bus: Bus, array: &mut [u8], security: &mut [u8], tape: &mut [u8]
 }
 
 // Sets the board up in memories of its size, and answers what comes.
-fn serve(count: usize, places: [Place; PLACES], array: &mut [u8], security: &mut [u8]) {
+fn serve(board: Board, array: &mut [u8], security: &mut [u8]) {
+    let count = board.count;
+    let places = board.places;
     mark_serials(count, places, security);
     let set_up = Bus::set_up(count, places, array, security);
     let verdict = set_up.verdict;
@@ -52,22 +49,12 @@ fn serve(count: usize, places: [Place; PLACES], array: &mut [u8], security: &mut
     }
 }
 
-// A board asks for no more than there is.
-fn part_of(asked: usize, most: usize) -> usize
-    ensures { λ r. ⌜ r ≤ most ⌝ }
-{
-    if asked <= most { asked } else { most }
-}
-
 // Lends the board memories of its size.
 fn fit(board: Board, array: &mut [u8], security: &mut [u8]) {
-    let count = board.count;
-    let places = board.places;
-    let array_end = part_of(array_start(count, places), array.len());
-    let security_end = part_of(security_start(count, places), security.len());
+    let array_end = board.array_end(array.len());
+    let security_end = board.security_end(security.len());
     serve(
-        count,
-        places,
+        board,
         &mut array[0..array_end],
         &mut security[0..security_end],
     );

@@ -1,9 +1,13 @@
-// The board that is asked for: how many chips it has, and where.
+// The board that is asked for: how many chips it has, and where, and how much of a memory it fills.
+use base::number::least;
 use board::PLACES;
 use board::Place;
+use board::shares::array_start;
+use board::shares::security_start;
 use parts::part::Part24CS32;
 ghost use mathlib.Core.Path.{_≡_};
-ghost use Rattle.placing.specs.Layout.{bare, withChip, paperBoard};
+ghost use Prim.Native.Nat.{_≤_};
+ghost use Rattle.placing.specs.Layout.{bare, withChip, paperBoard, arrayEnd, securityEnd};
 
 pub struct Board {
     pub count: usize,
@@ -50,5 +54,22 @@ impl Board {
                 Place { part: 0, strap: 0 },
             ],
         }
+    }
+    // Where its arrays end in a memory of some length: no later than the memory does.
+    pub fn array_end(self, most: usize) -> usize
+        ensures { λ r. ⌜ r ≤ most ⌝ }
+        ensures { λ r. ⌜ r ≡ arrayEnd self most ⌝ }
+    {
+        let places = self.places;
+        least(array_start(self.count, places), most)
+    }
+
+    // Its security registers likewise.
+    pub fn security_end(self, most: usize) -> usize
+        ensures { λ r. ⌜ r ≤ most ⌝ }
+        ensures { λ r. ⌜ r ≡ securityEnd self most ⌝ }
+    {
+        let places = self.places;
+        least(security_start(self.count, places), most)
     }
 }

@@ -1,8 +1,5 @@
 // A recording: the file NAME has a transcript, NAME.answers what the bench must answer.
-use board::PLACES;
-use board::Place;
-use board::shares::array_start;
-use board::shares::security_start;
+use base::number::least;
 use bus::Bus;
 use conversation::answer_all;
 use factory::erased_arrays;
@@ -74,14 +71,15 @@ fn read_answers(name: &[u8], into: &mut [u8]) -> Content {
 
 // The answers to a transcript on a fresh bus, and how many bytes they have; a board that is refused answers once.
 fn answers_on(
-    count: usize,
-    places: [Place; PLACES],
+    board: Board,
     array: &mut [u8],
     security: &mut [u8],
     tape: &[u8],
     filled: usize,
     said: &mut [u8],
 ) -> usize {
+    let count = board.count;
+    let places = board.places;
     mark_serials(count, places, security);
     let set_up = Bus::set_up(count, places, array, security);
     let verdict = set_up.verdict;
@@ -137,13 +135,6 @@ fn compare(name: &[u8], said: &[u8], recorded: &[u8]) -> bool {
     false
 }
 
-// No more than there is.
-fn part_of(asked: usize, most: usize) -> usize
-    ensures { λ r. ⌜ r ≤ most ⌝ }
-{
-    if asked <= most { asked } else { most }
-}
-
 // The board in memories of its size.
 fn answers_in_part(
     board: Board,
@@ -153,13 +144,10 @@ fn answers_in_part(
     filled: usize,
     said: &mut [u8],
 ) -> usize {
-    let count = board.count;
-    let places = board.places;
-    let array_end = part_of(array_start(count, places), array.len());
-    let security_end = part_of(security_start(count, places), security.len());
+    let array_end = board.array_end(array.len());
+    let security_end = board.security_end(security.len());
     answers_on(
-        count,
-        places,
+        board,
         &mut array[0..array_end],
         &mut security[0..security_end],
         tape,
@@ -170,8 +158,8 @@ fn answers_in_part(
 
 // What was said fills one buffer so far, and what is recorded the other.
 fn compare_parts(name: &[u8], said: &[u8], written: usize, recorded: &[u8], size: usize) -> bool {
-    let said_end = part_of(written, said.len());
-    let recorded_end = part_of(size, recorded.len());
+    let said_end = least(written, said.len());
+    let recorded_end = least(size, recorded.len());
     compare(name, &said[0..said_end], &recorded[0..recorded_end])
 }
 

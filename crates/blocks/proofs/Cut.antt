@@ -53,7 +53,7 @@ module _ (more : List ℕ) where
       let stays = fault-stays (s .kept) more none never in
       advance-fault (put more s) (stays .0) (stays .1) ∙ sym (advance-fault s none never)
 
-  -- so where a advance leads, one advance or none leads with more text behind
+  -- so where an advance leads, one advance or none leads with more text behind
   advance-behind : (s : Session) → (k : ℕ) × (advances k (behind s) ≡ behind (advance s))
   unfolding upTo
   advance-behind s = go (s .over) refl (isFrameAt (s .kept) 0) refl (unfinished (s .kept) 0) refl

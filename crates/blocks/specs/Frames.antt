@@ -9,6 +9,7 @@ use lib.ListN.{length}
 use Rattle.base.specs.Fold.{upTo}
 use Rattle.base.specs.Store.{span}
 use Rattle.refusal.specs.Refusal.{answerWord}
+use Rattle.board.specs.Stores.{WithStores, arrayOf, securityOf}
 use Rattle.bus.specs.declared.Bus.{Bus}
 use Rattle.bus.specs.declared.Stepped.{Stepped}
 use Rattle.bus.specs.Step.{step}
@@ -59,26 +60,26 @@ abbrev pub unplayed : Bus → List ℕ → List ℕ → Spoken
 unplayed bus array security = record { bus = bus; array = array; security = security; said = [] }
 
 -- what a step leaves, and its answer behind the others
-abbrev pub stepSpoken : ℕ → Spoken → Stepped × List ℕ × List ℕ → Spoken
-stepSpoken event world left =
-    record { bus = left .0 .bus; array = left .1; security = left .2; said = world .said ++ printed event (answerWord (left .0 .answer)) }
+abbrev pub stepSpoken : ℕ → Spoken → WithStores Stepped → Spoken
+stepSpoken event spoken stepped =
+    record { bus = stepped .0 .bus; array = arrayOf stepped; security = securityOf stepped; said = spoken .said ++ printed event (answerWord (stepped .0 .answer)) }
 
 abbrev pub eventSpoken : ℕ → Spoken → Spoken
-eventSpoken event world = stepSpoken event world (step (world .bus) (world .array) (world .security) event)
+eventSpoken event spoken = stepSpoken event spoken (step (spoken .bus) (spoken .array) (spoken .security) event)
 
 -- the events of the first k lines, one after the other
 abbrev pub afterFrames : List ℕ → ℕ → Spoken → Spoken
-afterFrames text k world = upTo (λ (j : ℕ). eventSpoken (eventAt text (j * frameBytes))) k world
+afterFrames text k spoken = upTo (λ (j : ℕ). eventSpoken (eventAt text (j * frameBytes))) k spoken
 
 -- what a conversation leaves where k lines were answered, and it is not over
 abbrev pub pausedAfter : ℕ → Spoken → List ℕ → Left
-pausedAfter k world buffer =
-    (record { used = k * frameBytes; written = k * printedBytes; over = false }, world .bus, world .array, world .security, laidOn buffer (world .said))
+pausedAfter k spoken buffer =
+    (record { used = k * frameBytes; written = k * printedBytes; over = false }, spoken .bus, spoken .array, spoken .security, laidOn buffer (spoken .said))
 
 -- and where FFFF0900 was said behind them: it is over, and the rest of the text is passed
 abbrev pub endedAfter : List ℕ → ℕ → Spoken → List ℕ → Left
-endedAfter text k world buffer =
-    (record { used = length text; written = (k + 1) * printedBytes; over = true }, world .bus, world .array, world .security, laidOn buffer (world .said ++ closing malformed))
+endedAfter text k spoken buffer =
+    (record { used = length text; written = (k + 1) * printedBytes; over = true }, spoken .bus, spoken .array, spoken .security, laidOn buffer (spoken .said ++ closing malformed))
 
 -- a whole transcript leaves the same but for the bus, which serves for nothing else
 abbrev pub WholeLeft : Type 0

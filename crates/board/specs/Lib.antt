@@ -1,3 +1,4 @@
 pub mod Place
 pub mod Board
 pub mod Shares
+pub mod Stores

@@ -11,6 +11,7 @@ use Rattle.refusal.specs.declared.Verdict.{Verdict}
 use Rattle.refusal.specs.declared.Verdict.the-variants.{Passed, Refused}
 use Rattle.refusal.specs.Refusal.{answerWord}
 use Rattle.refusal.specs.Checks.{firstOf}
+use Rattle.board.specs.Stores.{WithStores, arrayOf, securityOf}
 use Rattle.bus.specs.declared.Bus.{Bus}
 use Rattle.bus.specs.declared.Stepped.{Stepped}
 use Rattle.bus.specs.declared.Ran.{Ran}
@@ -25,8 +26,8 @@ abbrev pub Progress : Type 0
 Progress = Bus × List ℕ × List ℕ × List ℕ
 
 -- the answer to event i is in its place
-abbrev pub noted : ℕ → List ℕ → Stepped × List ℕ × List ℕ → Progress
-noted i answers stepped = (stepped .0 .bus, stepped .1, stepped .2, set answers i (answerWord (stepped .0 .answer)))
+abbrev pub noted : ℕ → List ℕ → WithStores Stepped → Progress
+noted i answers stepped = (stepped .0 .bus, arrayOf stepped, securityOf stepped, set answers i (answerWord (stepped .0 .answer)))
 
 abbrev pub runEvent : List ℕ → ℕ → Progress → Progress
 runEvent events i progress = noted i (progress .3) (event (progress .0) (progress .1) (progress .2) (getD events i 0))

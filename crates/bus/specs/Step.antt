@@ -10,13 +10,13 @@ use Rattle.refusal.specs.declared.Verdict.{Verdict}
 use Rattle.refusal.specs.declared.Verdict.the-variants.{Passed, Refused}
 use Rattle.refusal.specs.declared.Answer.the-variants as answer
 use Rattle.refusal.specs.Checks.{firstOf}
+use Rattle.board.specs.Stores.{WithStores, arrayOf, securityOf}
 use Rattle.board.specs.Shares.{wrongLength}
 use Rattle.decode.specs.declared.Addressed.{Addressed}
 use Rattle.decode.specs.Decode.{decodeChecks, addressedOf, eventOf}
 use Rattle.lineup.specs.Chips.{placesOf}
 use Rattle.lineup.specs.Wellformed.{wellFormed}
-use Rattle.line.specs.declared.Played.{Played}
-use Rattle.line.specs.Line.{clash, play, lineReply}
+use Rattle.line.specs.Line.{clash, OnLine, chipsOf, saidOf, play, lineReply}
 use Rattle.bus.specs.declared.Bus.{Bus}
 use Rattle.bus.specs.declared.Stepped.{Stepped}
 
@@ -35,24 +35,24 @@ abbrev pub stepChecks : Bus → List ℕ → List ℕ → ℕ → List (Bool × 
 stepChecks bus array security word = entryChecks bus array security ++ eventChecks bus word
 
 -- a refused step returns the state it was given, and leaves both stores
-abbrev pub refused : Refusal → Bus → List ℕ → List ℕ → Stepped × List ℕ × List ℕ
+abbrev pub refused : Refusal → Bus → List ℕ → List ℕ → WithStores Stepped
 refused refusal bus array security = (record { bus = bus; answer = answer.Refused refusal }, array, security)
 
 -- what the line made of an event
-abbrev pub done : Event → ℕ → Played × List ℕ × List ℕ → Stepped × List ℕ × List ℕ
-done event count world =
-    (record { bus = record { count = count; chips = world .0 .chips }; answer = answer.Done (lineReply event (world .0 .said)) }, world .1, world .2)
+abbrev pub done : Event → ℕ → OnLine → WithStores Stepped
+done event count line =
+    (record { bus = record { count = count; chips = chipsOf line }; answer = answer.Done (lineReply event (saidOf line)) }, arrayOf line, securityOf line)
 
-unfoldable pub played : Addressed → Bus → List ℕ → List ℕ → Stepped × List ℕ × List ℕ
+unfoldable pub played : Addressed → Bus → List ℕ → List ℕ → WithStores Stepped
 played addressed bus array security = done (eventOf addressed) (bus .count) (play addressed (bus .count) (bus .chips) array security)
 
-abbrev pub stepBy : Verdict → Bus → List ℕ → List ℕ → ℕ → Stepped × List ℕ × List ℕ
+abbrev pub stepBy : Verdict → Bus → List ℕ → List ℕ → ℕ → WithStores Stepped
 stepBy Passed bus array security word = played (addressedOf word) bus array security
 stepBy (Refused refusal) bus array security word = refused refusal bus array security
 
 -- one event of a state that is well formed, with stores of the right length
-unfoldable pub event : Bus → List ℕ → List ℕ → ℕ → Stepped × List ℕ × List ℕ
+unfoldable pub event : Bus → List ℕ → List ℕ → ℕ → WithStores Stepped
 event bus array security word = stepBy (firstOf (eventChecks bus word)) bus array security word
 
-unfoldable pub step : Bus → List ℕ → List ℕ → ℕ → Stepped × List ℕ × List ℕ
+unfoldable pub step : Bus → List ℕ → List ℕ → ℕ → WithStores Stepped
 step bus array security word = stepBy (firstOf (stepChecks bus array security word)) bus array security word

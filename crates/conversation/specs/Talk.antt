@@ -7,6 +7,7 @@ use lib.Dec.{ltb}
 use lib.ListN.{length, getD, drop}
 use Rattle.base.specs.Fold.{upTo, allBelow}
 use Rattle.refusal.specs.Refusal.{answerWord}
+use Rattle.board.specs.Stores.{WithStores, arrayOf, securityOf}
 use Rattle.bus.specs.declared.Bus.{Bus}
 use Rattle.bus.specs.declared.Stepped.{Stepped}
 use Rattle.bus.specs.Step.{step}
@@ -31,9 +32,9 @@ abbrev pub opened : Bus → List ℕ → List ℕ → Talk
 opened bus array security = record { bus = bus; array = array; security = security; said = []; at = 0; over = false }
 
 -- a step's answer is said, and the place is after its line
-abbrev pub answered : ℕ → ℕ → Talk → Stepped × List ℕ × List ℕ → Talk
-answered event next talk world =
-    record { bus = world .0 .bus; array = world .1; security = world .2; said = talk .said ++ printed event (answerWord (world .0 .answer)); at = next; over = talk .over }
+abbrev pub answered : ℕ → ℕ → Talk → WithStores Stepped → Talk
+answered event next talk stepped =
+    record { bus = stepped .0 .bus; array = arrayOf stepped; security = securityOf stepped; said = talk .said ++ printed event (answerWord (stepped .0 .answer)); at = next; over = talk .over }
 
 -- what is left from a place on may still become a line: it is shorter than one, and all of it digits
 abbrev pub unfinished : List ℕ → ℕ → Bool

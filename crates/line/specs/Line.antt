@@ -16,6 +16,7 @@ use Rattle.chip.specs.declared.event.Event.the-variants.{Start, Stop, Sent, Rea
 use Rattle.chip.specs.Chip.{step}
 use Rattle.board.specs.declared.Place.{Place}
 use Rattle.board.specs.Place.{placed}
+use Rattle.board.specs.Stores.{WithStores, arrayOf, securityOf}
 use Rattle.board.specs.Shares.{figuresAt, arrayStart, securityStart}
 use Rattle.decode.specs.declared.Addressed.{Addressed}
 use Rattle.decode.specs.Decode.{reaches, eventOf}
@@ -40,23 +41,33 @@ heard before Nothing = before
 heard before Ack = Ack
 heard before (Byte byte) = Byte byte
 
+-- the chips and what they have said so far, beside the two stores
+abbrev pub OnLine : Type 0
+OnLine = WithStores Played
+
+abbrev pub chipsOf : OnLine → List Chip
+chipsOf line = line .0 .chips
+
+abbrev pub saidOf : OnLine → Said
+saidOf line = line .0 .said
+
 -- chip i has taken the event: its next state, its word and its shares are in their places
-abbrev pub landed : List Place → ℕ → Played × List ℕ × List ℕ → Stepped × List ℕ × List ℕ → Played × List ℕ × List ℕ
-landed places i world stepped = (
-  record { chips = set (world .0 .chips) i (stepped .0 .chip); said = heard (world .0 .said) (stepped .0 .said) },
-  patched (arrayStart places i) (stepped .1) (world .1),
-  patched (securityStart places i) (stepped .2) (world .2),
+abbrev pub landed : List Place → ℕ → OnLine → WithStores Stepped → OnLine
+landed places i line stepped = (
+  record { chips = set (chipsOf line) i (stepped .0 .chip); said = heard (saidOf line) (stepped .0 .said) },
+  patched (arrayStart places i) (arrayOf stepped) (arrayOf line),
+  patched (securityStart places i) (securityOf stepped) (securityOf line),
 )
 
 -- chip i takes the event, where it reaches it
-abbrev pub chipTakes : Addressed → List Place → ℕ → Played × List ℕ × List ℕ → Played × List ℕ × List ℕ
-chipTakes addressed places i world =
+abbrev pub chipTakes : Addressed → List Place → ℕ → OnLine → OnLine
+chipTakes addressed places i line =
     cond (reaches addressed i)
-    (landed places i world (step (chipAt (world .0 .chips) i) (arrayShare places i (world .1)) (securityShare places i (world .2)) (eventOf addressed)))
-    world
+    (landed places i line (step (chipAt (chipsOf line) i) (arrayShare places i (arrayOf line)) (securityShare places i (securityOf line)) (eventOf addressed)))
+    line
 
 -- one chip after the other
-unfoldable pub play : Addressed → ℕ → List Chip → List ℕ → List ℕ → Played × List ℕ × List ℕ
+unfoldable pub play : Addressed → ℕ → List Chip → List ℕ → List ℕ → OnLine
 play addressed count chips array security =
     upTo (chipTakes addressed (placesOf chips)) (placed count) (record { chips = chips; said = Nothing }, array, security)
 

@@ -11,7 +11,8 @@ use Rattle.lineup.specs.Chips.{chipAt, placesOf}
 use Rattle.line.specs.Line.{arrayShare, securityShare}
 use Rattle.bus.specs.declared.Bus.{Bus}
 use Rattle.bus.specs.Setup.{emptyChip}
-use Rattle.promises.specs.Playing.{World}
+use Rattle.board.specs.Stores.{arrayOf, securityOf}
+use Rattle.promises.specs.Playing.{World, busOf}
 use Rattle.turns.specs.Turn.{Turn}
 use Rattle.turns.specs.Shuffle.{turnsOf}
 
@@ -21,8 +22,8 @@ onlyBus c = record { count = 1; chips = c ∷ emptyChip ∷ emptyChip ∷ emptyC
 
 abbrev pub alone : ℕ → World → World
 alone k world =
-    let chips = world .0 .chips in
-    (onlyBus (chipAt chips k), arrayShare (placesOf chips) k (world .1), securityShare (placesOf chips) k (world .2))
+    let chips = busOf world .chips in
+    (onlyBus (chipAt chips k), arrayShare (placesOf chips) k (arrayOf world), securityShare (placesOf chips) k (securityOf world))
 
 abbrev pub renamed : ℕ → ℕ
 renamed word = cond (leb 5 (kindOf word) && leb (kindOf word) 7) (wordOf (kindOf word) 0) word

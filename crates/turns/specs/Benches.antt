@@ -9,7 +9,8 @@ use Rattle.control.specs.Control.{arraycounterAt}
 use Rattle.chip.specs.declared.Chip.{Chip}
 use Rattle.lineup.specs.Chips.{controlAt}
 use Rattle.bus.specs.Step.{step}
-use Rattle.promises.specs.Playing.{World, Made, Bench, stepped}
+use Rattle.board.specs.Stores.{arrayOf, securityOf}
+use Rattle.promises.specs.Playing.{World, busOf, Made, Bench, stepped, ledTo}
 use Rattle.turns.specs.Turn.{isF8}
 use Rattle.turns.specs.Alone.{alone}
 
@@ -32,13 +33,13 @@ movedTo at c = record { control = arraycounterAt (at % geometryOf (c .control .p
 -- one counter for the line: after every event all chips have it
 abbrev pub shared : Fault
 shared world word made =
-    let chips = made .0 .bus .chips in (
+    let bus = busOf (ledTo made) in (
       record {
-        bus = record { count = made .0 .bus .count; chips = map (movedTo (lineCounter (world .0 .chips) chips)) chips };
+        bus = record { count = bus .count; chips = map (movedTo (lineCounter (busOf world .chips) (bus .chips))) (bus .chips) };
         answer = made .0 .answer;
       },
-      made .1,
-      made .2,
+      arrayOf made,
+      securityOf made,
     )
 
 abbrev pub oneCounter : Bench → Bench
@@ -48,7 +49,7 @@ oneCounter = with shared
 -- the next byte says)
 abbrev pub forFirst : Bench → Fault
 forFirst bench world word made =
-    cond (isF8 word) (record { bus = made .0 .bus; answer = stepped bench (alone 0 world) word .0 .answer }, made .1, made .2) made
+    cond (isF8 word) (record { bus = busOf (ledTo made); answer = stepped bench (alone 0 world) word .0 .answer }, arrayOf made, securityOf made) made
 
 abbrev pub ownF8 : Bench → Bench
 ownF8 bench = with (forFirst bench) bench

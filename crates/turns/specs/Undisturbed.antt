@@ -10,11 +10,12 @@ use Rattle.control.specs.Phase.{isBusy}
 use Rattle.refusal.specs.declared.Verdict.the-variants.{Passed}
 use Rattle.refusal.specs.Checks.{firstOf}
 use Rattle.board.specs.Place.{placed}
+use Rattle.board.specs.Stores.{arrayOf, securityOf}
 use Rattle.lineup.specs.Chips.{controlAt, placesOf}
 use Rattle.bus.specs.declared.Bus.{Bus}
 use Rattle.bus.specs.Step.{entryChecks}
 use Rattle.bus.proofs.Typed.{OfItsType}
-use Rattle.promises.specs.Playing.{World, Bench, after, answersTo}
+use Rattle.promises.specs.Playing.{World, busOf, Bench, after, answersTo}
 use Rattle.turns.specs.Idle.{isIdle}
 use Rattle.turns.specs.Turn.{Turn}
 use Rattle.turns.specs.Shuffle.{areTurns, eventsOf, Shuffle, turnOf, beganAt, answerOf, isExcepted}
@@ -23,12 +24,12 @@ use Rattle.turns.specs.Playing.{Ending, ending}
 
 -- turns may begin: the bus is well formed and idle, and its stores are of the right length
 pub record Ready (world : World) : Type 0 where
-  pub enters : firstOf (entryChecks (world .0) (world .1) (world .2)) ≡ Passed
-  pub idle : isIdle (world .0) ≡ true
+  pub enters : firstOf (entryChecks (busOf world) (arrayOf world) (securityOf world)) ≡ Passed
+  pub idle : isIdle (busOf world) ≡ true
 
 -- a list of turns of its chips
 abbrev pub Turns : World → List Turn → Type 0
-Turns world turns = areTurns (world .0 .count) (placesOf (world .0 .chips)) turns ≡ true
+Turns world turns = areTurns (busOf world .count) (placesOf (busOf world .chips)) turns ≡ true
 
 -- memories, registers, counters, busy marks and WP levels end the same (the whole state does), and the j-th turn of a chip in one list
 -- gets the answers of its j-th turn in the other
@@ -52,12 +53,12 @@ acknowledge bus = wordOf 0 (cond (isSomeFree bus) 0x01 0x00)
 -- demand 3 of a bench, over what it makes of single events; the bus is a value of its type, as the checker has it (no
 -- definition of ours says that)
 pub record Undisturbed (bench : Bench) : Type 0 where
-  pub shuffled : (world : World) (turns others : List Turn) → OfItsType (world .0) → Ready world → Turns world turns → Shuffle turns others
+  pub shuffled : (world : World) (turns others : List Turn) → OfItsType (busOf world) → Ready world → Turns world turns → Shuffle turns others
       → Alike turns others (ending bench world turns) (ending bench world others)
-  pub by-itself : (world : World) (turns : List Turn) → OfItsType (world .0) → Ready world → Turns world turns
-      → (k : ℕ) → k < world .0 .count
+  pub by-itself : (world : World) (turns : List Turn) → OfItsType (busOf world) → Ready world → Turns world turns
+      → (k : ℕ) → k < busOf world .count
       → AsAlone k turns (ending bench world turns) (ending bench (alone k world) (ownTurns k turns))
   -- and the excepted answer
-  pub excepted : (world : World) (turns : List Turn) → OfItsType (world .0) → Ready world → Turns world turns
+  pub excepted : (world : World) (turns : List Turn) → OfItsType (busOf world) → Ready world → Turns world turns
       → (k j i : ℕ) → isExcepted (turnOf k turns j) i ≡ true
-      → answerOf k turns (answersTo bench world (eventsOf turns)) j i ≡ acknowledge (after bench world (take (beganAt k turns j + i) (eventsOf turns)) .0)
+      → answerOf k turns (answersTo bench world (eventsOf turns)) j i ≡ acknowledge (busOf (after bench world (take (beganAt k turns j + i) (eventsOf turns))))

@@ -1,4 +1,17 @@
--- Well formed, clause by clause (paper, "Well formed means"). Places past the count are not looked at.
+-- Well formed (paper, "Well formed means"), of which `wellformed` has what concerns one chip, and two chips side by side. Clause by clause:
+--     set-up would pass 1 to 4                                 setUpPasses, here
+--     every counter is inside its region                       countersFit, and for the place in the ID placeFits: wellformed Wellformed
+--     every load position is inside its region                 loadFits: wellformed Wellformed
+--     at most one chip in all is sending, chosen or taking
+--     word-address or data bytes                               notBothActive: wellformed Beside
+--     while another chip awaits a byte, that one is only
+--     chosen and awaits an address byte too                    waitsToo: wellformed Beside
+--     a busy chip is none of these and takes nothing           busyNotChosen: wellformed Wellformed; a busy phase neither sends nor takes
+--     only a chip taking data bytes holds a load               loadMost, in loadFits: wellformed Wellformed
+--     every register's unused bits and ECS are 0               unusedBitsClear: wellformed Wellformed
+--     awaiting an address byte, or the byte after F8h,
+--     counts as taking                                         isTaking: control Phase
+-- Places past the count are not looked at.
 use Prim.Native.Nat.{ℕ}
 use mathlib.Core.Bool.{Bool, _&&_}
 use mathlib.Core.List.{List}

@@ -29,8 +29,7 @@ use Rattle.board.specs.Shares.{figuresAt, arrayStart, securityStart}
 use Rattle.decode.specs.declared.Addressed.{Addressed}
 use Rattle.decode.specs.Decode.{kindOf, addressedOf, reaches, eventOf}
 use Rattle.lineup.specs.Chips.{noChip, chipAt, placesOf}
-use Rattle.line.specs.declared.Played.{Played}
-use Rattle.line.specs.Line.{arrayShare, securityShare, heard, landed, chipTakes, play, unanswered, lineReply}
+use Rattle.line.specs.Line.{arrayShare, securityShare, heard, OnLine, landed, chipTakes, play, unanswered, lineReply}
 use Rattle.bus.specs.declared.Bus.{Bus}
 use Rattle.bus.specs.declared.Stepped.{Stepped}
 use Rattle.bus.specs.Step.{stepChecks, done, stepBy, played, step}
@@ -53,9 +52,6 @@ brings-a-byte word =
     (either Brings (eqb (kindOf word) 7) _ _ tt tt))))))
 
 -- the line while one chip after the other takes the event
-abbrev OnLine : Type 0
-OnLine = Played × List ℕ × List ℕ
-
 abbrev LineBytes : OnLine → Type 0
 LineBytes world = Every ChipBytes (world .0 .chips) × SaidByte (world .0 .said) × AllBytes (world .1) × AllBytes (world .2)
 

@@ -4,8 +4,7 @@ use Prim.Native.Nat.{ℕ, _%_}
 use mathlib.Core.Bool.{Bool, true, false, cond, not, _&&_, _||_, false≢true}
 use mathlib.Core.List.{List}
 use mathlib.Core.Path.{_≡_, refl}
-use Rattle.base.proofs.logic.Laws.{either}
-use Rattle.base.proofs.Fold.{and-left, and-right, or-right}
+use Rattle.base.proofs.logic.Laws.{and-left, and-right, or-right, or-either, either}
 use Rattle.load.specs.declared.Load.{Load}
 use Rattle.load.specs.Load as load
 use Rattle.load.proofs.Laws.{within-emptied}
@@ -21,6 +20,7 @@ use Rattle.control.specs.Phase.{isBusy, isSending, isTaking, awaitsAddress}
 use Rattle.control.specs.Control.{inPhase, idlockedNow, configured}
 use Rattle.control.specs.Exchange.{standbyNow, busyNow}
 use Rattle.control.specs.Bits.{configlock}
+use Rattle.control.proofs.phase.Laws.{busy-is, awaits-address-is}
 use Rattle.configuration.specs.Configuration.{confirms, stopConfiguration}
 use Rattle.addressing.specs.Address.{callOf, takeAddress}
 use Rattle.taking.specs.Taking as taking
@@ -111,13 +111,10 @@ start-heeds c a s = go (isBusy (c .control .phase)) refl
     go false is = refl
 
 heeds : (phase : Phase) → isHeeding phase ≡ true → (P : Phase → Type 0) → P AwaitsAddress → P Busy → P phase
-heeds Standby heeding P address busy = absurd (false≢true heeding)
-heeds Busy heeding P address busy = busy
-heeds AwaitsAddress heeding P address busy = address
-heeds AwaitsChoice heeding P address busy = absurd (false≢true heeding)
-heeds (AwaitsWord word) heeding P address busy = absurd (false≢true heeding)
-heeds (TakesData kind) heeding P address busy = absurd (false≢true heeding)
-heeds (SendsByte source) heeding P address busy = absurd (false≢true heeding)
+heeds phase heeding P address busy =
+    or-either (awaitsAddress phase) (isBusy phase) heeding
+    (λ awaits. rw (awaits-address-is phase awaits) address)
+    (λ is. rw (busy-is phase is) busy)
 
 pub heeding-sends-nothing : (phase : Phase) → isHeeding phase ≡ true → isSending phase ≡ false
 heeding-sends-nothing phase heeding = heeds phase heeding (λ (p : Phase). isSending p ≡ false) refl refl

@@ -3,10 +3,9 @@
 use Prim.Native.Nat.{ℕ, _%_}
 use mathlib.Core.Bool.{Bool, true, false, cond, not, _&&_}
 use mathlib.Core.List.{List}
-use mathlib.Core.Path.{_≡_, refl}
+use mathlib.Core.Path.{_≡_}
 use borrow.Author.Tests.{not-true}
-use Rattle.base.proofs.logic.Laws.{either}
-use Rattle.base.proofs.Fold.{and-right}
+use Rattle.base.proofs.logic.Laws.{and-right, either-if, either}
 use Rattle.parts.specs.Part.{geometryOf}
 use Rattle.load.specs.declared.Load.{Load}
 use Rattle.control.specs.declared.Control.{Control}
@@ -24,7 +23,6 @@ use Rattle.control.specs.declared.phase.Source.the-variants.{FromArray, FromSec
 use Rattle.control.specs.declared.phase.Shown.{Shown}
 use Rattle.control.specs.Phase.{isBusy}
 use Rattle.control.specs.Control.{inPhase, showing, choosing, arraycounterAt, securitycounterAt, idlockedNow, configured, wpAt}
-use Rattle.control.specs.Exchange.{standbyNow, busyNow}
 use Rattle.addressing.specs.declared.Call.{Call}
 use Rattle.addressing.specs.declared.Call.the-variants.{ReadArray, WriteArray, ReadRegister, WriteRegister, HostF8, HostF9, Nobody}
 use Rattle.addressing.specs.Address.{callOf, takeCall, takeAddress, takeChosen, takeChoice}
@@ -124,21 +122,15 @@ module _ (P : Control → Type 0) (closed : Closed P) where
   read-keeps (SendsByte source) c array security nack p =
       either P nack (inPhase Standby (movedPast source c)) (movedPast source c) (closed .phase _ _ (moved-keeps source c p)) (moved-keeps source c p)
 
-  -- a test that names the lock: where it holds, the lock is open
-  configure-keeps : (first second third : ℕ) (c : Control) → P c → (test : Bool) → (confirms first third && not (configlock c)) ≡ test → P (cond test (busyNow (configured (first % 4) second c)) (standbyNow c))
-  configure-keeps first second third c p true is =
-      after _ false Busy (closed .configures c (first % 4) second (not-true (configlock c) (and-right (confirms first third) _ is)) p)
-  configure-keeps first second third c p false is = after c false Standby p
-
-  lock-keeps : (some : Bool) (c : Control) → P c → (test : Bool) → (some && not (c .idlocked)) ≡ test → P (cond test (busyNow (idlockedNow c)) (standbyNow c))
-  lock-keeps some c p true is = after _ false Busy (closed .locks c (not-true (c .idlocked) (and-right some _ is)) p)
-  lock-keeps some c p false is = after c false Standby p
-
+  -- where a test that names the lock holds, the lock is open
   came-keeps : (came : Came) (c : Control) → P c → P (stopConfiguration came c)
   came-keeps Zero c p = after c false Standby p
   came-keeps (One first) c p = after c false Standby p
   came-keeps (Two first second) c p = after c false Standby p
-  came-keeps (Three first second third) c p = configure-keeps first second third c p (confirms first third && not (configlock c)) refl
+  came-keeps (Three first second third) c p =
+      either-if P (confirms first third && not (configlock c)) _ _
+      (λ is. after _ false Busy (closed .configures c (first % 4) second (not-true (configlock c) (and-right (confirms first third) _ is)) p))
+      (after c false Standby p)
   came-keeps More c p = after c false Standby p
 
   ends-keep : (kind : Data) (c : Control) (load : Load) (array security : List ℕ) → P c → P (stopData kind c load array security .0)
@@ -147,7 +139,10 @@ module _ (P : Control → Type 0) (closed : Closed P) where
   ends-keep ToSecurity c load array security p =
       either (λ (x : Control × List ℕ). P (x .0)) (writesSecurity c load) _ _ (after c false Busy p) (after c false Standby p)
   ends-keep (ToConfiguration came) c load array security p = came-keeps came c p
-  ends-keep (ToLock some) c load array security p = lock-keeps some c p (some && not (c .idlocked)) refl
+  ends-keep (ToLock some) c load array security p =
+      either-if P (some && not (c .idlocked)) _ _
+      (λ is. after _ false Busy (closed .locks c (not-true (c .idlocked) (and-right some _ is)) p))
+      (after c false Standby p)
   ends-keep ToNowhere c load array security p = after c false Standby p
 
   stop-keeps : (phase : Phase) (c : Control) (load : Load) (array security : List ℕ) → P c → P (stopIn phase c load array security .0)

@@ -1,8 +1,9 @@
 -- What a test of a phase says of it, by the seven phases: which of them pass.
-use mathlib.Core.Bool.{true, false, false≢true}
-use mathlib.Core.Path.{_≡_, refl, sym}
+use mathlib.Core.Bool.{true, false, true≢false, false≢true}
+use mathlib.Core.Path.{_≡_, refl}
 use Rattle.control.specs.declared.phase.Phase.{Phase}
 use Rattle.control.specs.declared.phase.Phase.the-variants.{Standby, Busy, AwaitsAddress, AwaitsChoice, AwaitsWord, TakesData, SendsByte}
+use Rattle.control.specs.declared.phase.Source.{Source}
 use Rattle.control.specs.Phase.{isBusy, isSending, isTaking, isAwaiting, awaitsAddress}
 
 pub busy-is : (phase : Phase) → isBusy phase ≡ true → phase ≡ Busy
@@ -33,12 +34,22 @@ awaiting-is (AwaitsWord word) awaits P address choice = absurd (false≢true awa
 awaiting-is (TakesData kind) awaits P address choice = absurd (false≢true awaits)
 awaiting-is (SendsByte source) awaits P address choice = absurd (false≢true awaits)
 
--- a chip that neither sends nor takes is on standby or busy
+-- a chip that takes nothing sends, or is on standby or busy
+pub not-taking-is : (phase : Phase) → isTaking phase ≡ false
+    → (P : Phase → Type 0) → P Standby → P Busy → ((source : Source) → P (SendsByte source))
+    → P phase
+not-taking-is Standby takes P standby busy sends = standby
+not-taking-is Busy takes P standby busy sends = busy
+not-taking-is AwaitsAddress takes P standby busy sends = absurd (true≢false takes)
+not-taking-is AwaitsChoice takes P standby busy sends = absurd (true≢false takes)
+not-taking-is (AwaitsWord word) takes P standby busy sends = absurd (true≢false takes)
+not-taking-is (TakesData kind) takes P standby busy sends = absurd (true≢false takes)
+not-taking-is (SendsByte source) takes P standby busy sends = sends source
+
 pub resting-is : (phase : Phase) → isSending phase ≡ false → isTaking phase ≡ false → (P : Phase → Type 0) → P Standby → P Busy → P phase
-resting-is Standby sends takes P standby busy = standby
-resting-is Busy sends takes P standby busy = busy
-resting-is AwaitsAddress sends takes P standby busy = absurd (false≢true (sym takes))
-resting-is AwaitsChoice sends takes P standby busy = absurd (false≢true (sym takes))
-resting-is (AwaitsWord word) sends takes P standby busy = absurd (false≢true (sym takes))
-resting-is (TakesData kind) sends takes P standby busy = absurd (false≢true (sym takes))
-resting-is (SendsByte source) sends takes P standby busy = absurd (false≢true (sym sends))
+resting-is phase sends takes P standby busy =
+    not-taking-is phase takes (λ (p : Phase). isSending p ≡ false → P p)
+    (λ silent. standby)
+    (λ silent. busy)
+    (λ source silent. absurd (true≢false silent))
+    sends

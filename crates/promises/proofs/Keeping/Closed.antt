@@ -25,15 +25,18 @@ use Rattle.control.specs.Phase.{isBusy}
 use Rattle.control.specs.Control.{inPhase, showing, choosing, arraycounterAt, securitycounterAt, idlockedNow, configured, wpAt}
 use Rattle.addressing.specs.declared.Call.{Call}
 use Rattle.addressing.specs.declared.Call.the-variants.{ReadArray, WriteArray, ReadRegister, WriteRegister, HostF8, HostF9, Nobody}
-use Rattle.addressing.specs.Address.{callOf, takeCall, takeAddress, takeChosen, takeChoice}
+use Rattle.addressing.specs.Address.{callOf, takeCall, takeAddress}
+use Rattle.addressing.proofs.Laws.{choice-either}
 use Rattle.wordaddress.specs.declared.Register.{Register}
 use Rattle.wordaddress.specs.declared.Register.the-variants.{Security, Configuration, Lock, Nowhere}
 use Rattle.wordaddress.specs.WordAddress.{registerOf, isLock, takeNamed, takeWord}
 use Rattle.taking.specs.Taking.{takeData, takeIn, take}
 use Rattle.sending.specs.Sending.{movedPast, readIn, read}
+use Rattle.sending.proofs.Laws.{read-either}
 use Rattle.control.specs.Bits.{configlock}
 use Rattle.configuration.specs.Configuration.{confirms, stopConfiguration}
 use Rattle.cycle.specs.Stop.{writesArray, writesSecurity, stopData, stopIn, stop}
+use Rattle.cycle.proofs.Laws.{stop-either}
 use Rattle.chip.specs.declared.Chip.{Chip}
 use Rattle.chip.specs.declared.event.Event.{Event}
 use Rattle.chip.specs.declared.event.Event.the-variants.{Start, Stop, Sent, Read, Wp, CycleOver, PowerUp}
@@ -67,15 +70,6 @@ module _ (P : Control → Type 0) (closed : Closed P) where
   call-keeps HostF9 c p = told (c .chosen) _ _ (closed .phase c _ p) (closed .phase c _ p)
   call-keeps Nobody c p = after c false _ p
 
-  chosen-keeps : (call : Call) (c : Control) → P c → P (takeChosen call c .control)
-  chosen-keeps ReadArray c p = after c true _ p
-  chosen-keeps (WriteArray a16) c p = after c true _ p
-  chosen-keeps ReadRegister c p = closed .phase c _ p
-  chosen-keeps WriteRegister c p = closed .phase c _ p
-  chosen-keeps HostF8 c p = closed .phase c _ p
-  chosen-keeps HostF9 c p = closed .phase c _ p
-  chosen-keeps Nobody c p = closed .phase c _ p
-
   named-keeps : (register : Register) (first : ℕ) (c : Control) (byte : ℕ) → P c → P (takeNamed register first c byte .control)
   named-keeps Security first c byte p = closed .phase _ _ (closed .shown _ _ (closed .security c _ p))
   named-keeps Configuration first c byte p = closed .phase _ _ (closed .shown c _ p)
@@ -96,11 +90,11 @@ module _ (P : Control → Type 0) (closed : Closed P) where
   data-keeps ToNowhere c byte p = closed .phase c _ p
 
   take-keeps : (phase : Phase) (c : Control) (byte : ℕ) → P c → P (takeIn phase c byte .control)
-  unfolding takeAddress takeChoice
+  unfolding takeAddress
   take-keeps Standby c byte p = p
   take-keeps Busy c byte p = p
   take-keeps AwaitsAddress c byte p = call-keeps (callOf (geometryOf (c .part)) (c .strap) byte) c p
-  take-keeps AwaitsChoice c byte p = chosen-keeps (callOf (geometryOf (c .part)) (c .strap) byte) c p
+  take-keeps AwaitsChoice c byte p = choice-either c byte (λ (x : Answered). P (x .control)) (after c true _ p) (closed .phase c _ p)
   take-keeps (AwaitsWord word) c byte p = word-keeps word c byte p
   take-keeps (TakesData kind) c byte p = data-keeps kind c byte p
   take-keeps (SendsByte source) c byte p = p
@@ -113,13 +107,8 @@ module _ (P : Control → Type 0) (closed : Closed P) where
   moved-keeps FromNothing c p = p
 
   read-keeps : (phase : Phase) (c : Control) (array security : List ℕ) (nack : Bool) → P c → P (readIn phase c array security nack .control)
-  read-keeps Standby c array security nack p = p
-  read-keeps Busy c array security nack p = p
-  read-keeps AwaitsAddress c array security nack p = p
-  read-keeps AwaitsChoice c array security nack p = p
-  read-keeps (AwaitsWord word) c array security nack p = p
-  read-keeps (TakesData kind) c array security nack p = p
-  read-keeps (SendsByte source) c array security nack p =
+  read-keeps phase c array security nack p =
+      read-either c array security nack (λ (x : Answered). P (x .control)) p phase λ source sends.
       either P nack (inPhase Standby (movedPast source c)) (movedPast source c) (closed .phase _ _ (moved-keeps source c p)) (moved-keeps source c p)
 
   -- where a test that names the lock holds, the lock is open
@@ -146,13 +135,9 @@ module _ (P : Control → Type 0) (closed : Closed P) where
   ends-keep ToNowhere c load array security p = after c false Standby p
 
   stop-keeps : (phase : Phase) (c : Control) (load : Load) (array security : List ℕ) → P c → P (stopIn phase c load array security .0)
-  stop-keeps Standby c load array security p = after c false Standby p
-  stop-keeps Busy c load array security p = p
-  stop-keeps AwaitsAddress c load array security p = after c false Standby p
-  stop-keeps AwaitsChoice c load array security p = after c false Standby p
-  stop-keeps (AwaitsWord word) c load array security p = after c false Standby p
-  stop-keeps (TakesData kind) c load array security p = ends-keep kind c load array security p
-  stop-keeps (SendsByte source) c load array security p = after c false Standby p
+  stop-keeps phase c load array security p =
+      stop-either c load array security (λ (x : Control × List ℕ × List ℕ). P (x .0)) phase (λ busy. p) (after c false Standby p)
+      (λ kind takes. ends-keep kind c load array security p)
 
   pub step-keeps : (c : Chip) (array security : List ℕ) (event : Event) → P (c .control) → P (chip.step c array security event .0 .chip .control)
   unfolding chip.step take read stop

@@ -1,5 +1,5 @@
--- What two tests together say of each. And a choice by a test: it is what stands on the side that the test takes, and keeps what both
--- sides keep.
+-- What two tests together say of each. And a choice by a test: it is what stands on the side that the test takes, and keeps what
+-- both sides keep.
 use mathlib.Core.Bool.{Bool, true, false, cond, _&&_, _||_, false≢true}
 use mathlib.Core.Path.{_≡_, _∙_, refl, ap, sym}
 

@@ -46,6 +46,7 @@ not-taking-is (AwaitsWord word) takes P standby busy sends = absurd (true≢fals
 not-taking-is (TakesData kind) takes P standby busy sends = absurd (true≢false takes)
 not-taking-is (SendsByte source) takes P standby busy sends = sends source
 
+-- and where it sends nothing either, it is on standby or busy
 pub resting-is : (phase : Phase) → isSending phase ≡ false → isTaking phase ≡ false → (P : Phase → Type 0) → P Standby → P Busy → P phase
 resting-is phase sends takes P standby busy =
     not-taking-is phase takes (λ (p : Phase). isSending p ≡ false → P p)

@@ -4,11 +4,12 @@ use Prim.Native.Nat.{ℕ, zero, suc, _+_, _<_}
 use native.Mathlib.Decide.{decLt}
 use native.Mathlib.Numerals.{add-one}
 use native.Mathlib.Omega.{arith}
-use mathlib.Core.Bool.{Bool, true, false, _&&_, _||_, false≢true}
-use mathlib.Core.Path.{_≡_, _∙_, refl, sym, ap, subst}
+use mathlib.Core.Bool.{Bool, true, false, _||_, false≢true}
+use mathlib.Core.Path.{_≡_, _∙_, refl, ap, subst}
 use lib.Dec.{eqb}
 use borrow.Author.Tests.{eqb-true, eqb-false}
 use Rattle.base.specs.Fold.{upTo, allBelow, anyBelow, allPairs, anyPair}
+use Rattle.base.proofs.logic.Laws.{and-left, and-right, and-both, or-left, or-right, or-none, or-either}
 
 module _ {A : Type 0} (f : ℕ → A → A) where
   pub up-none : (a : A) → a ≡ upTo f 0 a
@@ -41,30 +42,6 @@ module _ {A : Type 0} (f : ℕ → A → A) where
 
   pub up-end : {n m : ℕ} (a : A) {x : A} → n ≡ m → x ≡ upTo f n a → x ≡ upTo f m a
   up-end a ends so-far = rw ends at so-far
-
-pub and-left : (a b : Bool) → (a && b) ≡ true → a ≡ true
-and-left true b h = refl
-and-left false b h = h
-
-pub and-right : (a b : Bool) → (a && b) ≡ true → b ≡ true
-and-right true b h = h
-and-right false b h = absurd (false≢true h)
-
-pub and-both : (a b : Bool) → a ≡ true → b ≡ true → (a && b) ≡ true
-and-both true b h k = k
-and-both false b h k = h
-
-pub or-left : (a b : Bool) → a ≡ true → (a || b) ≡ true
-or-left true b h = refl
-or-left false b h = absurd (false≢true h)
-
-pub or-right : (a b : Bool) → b ≡ true → (a || b) ≡ true
-or-right true b h = refl
-or-right false b h = h
-
-pub or-none : (a b : Bool) → (a || b) ≡ false → (a ≡ false) × (b ≡ false)
-or-none true b h = absurd (false≢true (sym h))
-or-none false b h = (refl, h)
 
 module _ (test : ℕ → Bool) where
   pub all-each : (n : ℕ) → ((i : ℕ) → i < n → test i ≡ true) → allBelow test n ≡ true
@@ -108,11 +85,10 @@ module _ (test : ℕ → Bool) where
   pub any-some : (n : ℕ) → anyBelow test n ≡ true → (i : ℕ) × ((i < n) × (test i ≡ true))
   unfolding upTo
   any-some zero some = absurd (false≢true some)
-  any-some (suc n) some = go (test n) refl some (any-some n)
-    where
-      go : (here : Bool) → test n ≡ here → (here || anyBelow test n) ≡ true → (anyBelow test n ≡ true → (i : ℕ) × ((i < n) × (test i ≡ true))) → (i : ℕ) × ((i < suc n) × (test i ≡ true))
-      go true is held earlier = (n, (omega arith, is))
-      go false is held earlier = let (i, (below, holds)) = earlier held in (i, (omega arith, holds))
+  any-some (suc n) some =
+      or-either (test n) _ some
+      (λ is. (n, (omega arith, is)))
+      (λ earlier. let (i, (below, holds)) = any-some n earlier in (i, (omega arith, holds)))
 
   -- a test that fails at every index but one
   pub any-one : (n k : ℕ) → k < n → ((j : ℕ) → j < n → (j ≡ k → ⊥) → test j ≡ false) → anyBelow test n ≡ test k

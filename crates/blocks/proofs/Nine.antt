@@ -12,7 +12,7 @@ use lib.ListN.{length, length-append}
 use borrow.Author.Tests.{le-leb, lt-leb, leb-true, ltb-true}
 use Rattle.base.specs.Fold.{upTo}
 use Rattle.base.specs.Store.{patched}
-use Rattle.base.proofs.Fold.{and-left}
+use Rattle.base.proofs.logic.Laws.{and-left}
 use Rattle.refusal.specs.Refusal.{answerWord}
 use Rattle.bus.specs.declared.Bus.{Bus}
 use Rattle.bus.specs.Step.{step}

@@ -16,7 +16,8 @@ use Rattle.base.specs.Fold.{allBelow}
 use Rattle.transcript.specs.Digit.{digitOf, isDigit}
 use Rattle.transcript.specs.Frame.{isFrameAt, eventAt}
 use Rattle.conversation.specs.Talk.{unfinished}
-use Rattle.base.proofs.Fold.{and-left, and-right, and-both, all-each, all-at}
+use Rattle.base.proofs.logic.Laws.{and-left, and-right, and-both}
+use Rattle.base.proofs.Fold.{all-each, all-at}
 
 -- two tests of which each gives the other
 both-ways : (a b : Bool) → (a ≡ true → b ≡ true) → (b ≡ true → a ≡ true) → a ≡ b

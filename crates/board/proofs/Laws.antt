@@ -9,7 +9,7 @@ use mathlib.Core.Path.{_≡_}
 use lib.Dec.{ltb, leb}
 use borrow.Author.Tests.{leb-true, not-false}
 use Rattle.base.specs.Fold.{upTo}
-use Rattle.base.proofs.Fold.{and-left, and-right}
+use Rattle.base.proofs.logic.Laws.{and-left, and-right}
 use Rattle.base.proofs.number.Laws.{least-first, least-most}
 use Rattle.parts.specs.Address.{codesOf, firstCode}
 use Rattle.parts.specs.Part.{geometryOf}

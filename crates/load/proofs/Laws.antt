@@ -12,8 +12,8 @@ use lib.ListN.{length, getD, getD-replicate, length-set}
 use lib.Seq.{getD-set-same, getD-set-other}
 use borrow.Author.Tests.{lt-ltb, ltb-true, eqb-true, eqb-false}
 use Rattle.base.specs.Fold.{upTo}
-use Rattle.base.proofs.Fold.{up-keeps, up-keeps-below, all-each, all-at, or-right}
-use Rattle.base.proofs.logic.Laws.{either}
+use Rattle.base.proofs.logic.Laws.{or-right, either}
+use Rattle.base.proofs.Fold.{up-keeps, up-keeps-below, all-each, all-at}
 use Rattle.parts.specs.declared.part.Geometry.{Geometry}
 use Rattle.parts.specs.Part.{Sound}
 use Rattle.regions.specs.Page.{pageOf, placeOf}

@@ -9,7 +9,7 @@ use denote.Ref.{RefT}
 use lib.Dec.{eqb, ltb, leb}
 use lib.ListN.{length}
 use borrow.Author.Tests.{ltb-true, not-false}
-use Rattle.base.proofs.Fold.{and-left, and-right}
+use Rattle.base.proofs.logic.Laws.{and-left, and-right}
 use Rattle.refusal.specs.declared.Verdict.{Verdict}
 use Rattle.refusal.specs.declared.Verdict.the-variants.{Passed, Refused}
 use Rattle.refusal.specs.Refusal.{statusOf}

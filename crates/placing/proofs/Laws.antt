@@ -9,7 +9,7 @@ use mathlib.Core.Path.{_≡_, refl}
 use lib.Dec.{eqb}
 use lib.ListN.{length, getD}
 use borrow.Author.Tests.{eqb-true}
-use Rattle.base.proofs.Fold.{and-left, and-right}
+use Rattle.base.proofs.logic.Laws.{and-left, and-right}
 use Rattle.board.specs.declared.Place.{Place}
 use Rattle.transcript.specs.Digit.{isDigit}
 use Rattle.placing.specs.declared.NamedPlace.the-variants.{Named, Unknown}

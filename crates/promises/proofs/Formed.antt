@@ -1,14 +1,14 @@
 -- What the tests of a well-formed bus say, clause by clause: where they pass, each clause holds of each chip and of each two chips; and
 -- where all of that holds, they pass.
 use Prim.Native.Nat.{ℕ, _<_}
-use native.Mathlib.Omega.{arith}
 use mathlib.Core.Bool.{Bool, true, false, not}
 use mathlib.Core.List.{List}
 use mathlib.Core.Path.{_≡_, ap}
 use lib.Dec.{eqb}
 use lib.ListN.{length}
 use borrow.Author.Tests.{eqb-true, eq-eqb, not-false}
-use Rattle.base.proofs.Fold.{and-left, and-right, and-both, or-none, all-each, all-at, all-pairs-each, all-pairs-at}
+use Rattle.base.proofs.logic.Laws.{and-left, and-right, and-both, or-none}
+use Rattle.base.proofs.Fold.{all-each, all-at, all-pairs-each, all-pairs-at}
 use Rattle.chip.specs.declared.Chip.{Chip}
 use Rattle.wellformed.specs.Wellformed as alone
 use Rattle.wellformed.specs.Beside.{sideBySide}

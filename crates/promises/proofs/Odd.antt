@@ -8,12 +8,12 @@ use Rattle.base.specs.Fold.{upTo}
 use Rattle.parts.specs.Part.{geometryOf}
 use Rattle.load.specs.Load as load
 use Rattle.control.specs.declared.Control.{Control}
+use Rattle.control.specs.declared.Answered.{Answered}
 use Rattle.control.specs.declared.phase.Phase.the-variants.{AwaitsAddress, AwaitsChoice, TakesData}
 use Rattle.control.specs.declared.phase.Data.the-variants.{ToArray, ToLock}
 use Rattle.control.specs.Control.{fresh, inPhase, choosing, idlockedNow}
-use Rattle.addressing.specs.declared.Call.{Call}
-use Rattle.addressing.specs.declared.Call.the-variants.{ReadArray, WriteArray, ReadRegister, WriteRegister, HostF8, HostF9, Nobody}
-use Rattle.addressing.specs.Address.{callOf, takeChosen, takeChoice}
+use Rattle.addressing.specs.Address.{takeChoice}
+use Rattle.addressing.proofs.Laws.{choice-either}
 use Rattle.chip.specs.declared.Chip.{Chip}
 use Rattle.wellformed.specs.Wellformed as alone
 use Rattle.board.specs.Board.{boardVerdict}
@@ -49,14 +49,4 @@ odd-ones-are-well-formed = refl
 
 -- the third: the byte after F8h is no address byte, so a choice outlives it, whatever byte it is
 pub choice-outlives-the-byte-after-f8 : (c : Control) (byte : ℕ) → c .chosen ≡ true → takeChoice c byte .control .chosen ≡ true
-unfolding takeChoice
-choice-outlives-the-byte-after-f8 c byte chosen = go (callOf (geometryOf (c .part)) (c .strap) byte)
-  where
-    go : (call : Call) → takeChosen call c .control .chosen ≡ true
-    go ReadArray = refl
-    go (WriteArray a16) = refl
-    go ReadRegister = chosen
-    go WriteRegister = chosen
-    go HostF8 = chosen
-    go HostF9 = chosen
-    go Nobody = chosen
+choice-outlives-the-byte-after-f8 c byte chosen = choice-either c byte (λ (x : Answered). x .control .chosen ≡ true) refl chosen

@@ -8,7 +8,8 @@ use mathlib.Core.List.{List}
 use mathlib.Core.Logic.{_↔_, _⊎_, inl, inr}
 use mathlib.Core.Path.{_≡_, _∙_, refl, sym, ap}
 use Rattle.base.specs.Fold.{upTo, anyBelow}
-use Rattle.base.proofs.Fold.{and-left, and-both, or-left, or-right, any-at, any-some}
+use Rattle.base.proofs.logic.Laws.{and-left, and-both, or-left, or-right}
+use Rattle.base.proofs.Fold.{any-at, any-some}
 use Rattle.control.specs.declared.Control.{Control}
 use Rattle.control.specs.declared.Said.{Said}
 use Rattle.control.specs.declared.Said.the-variants.{Nothing, Ack, Byte}

@@ -18,7 +18,8 @@ use Rattle.control.specs.declared.phase.Data.{Data}
 use Rattle.control.specs.declared.phase.Data.the-variants.{ToArray, ToSecurity, ToConfiguration, ToLock, ToNowhere}
 use Rattle.addressing.specs.declared.Call.{Call}
 use Rattle.addressing.specs.declared.Call.the-variants.{ReadArray, WriteArray, ReadRegister, WriteRegister, HostF8, HostF9, Nobody}
-use Rattle.addressing.specs.Address.{callOf, takeCall, takeAddress, takeChosen, takeChoice}
+use Rattle.addressing.specs.Address.{callOf, takeCall, takeAddress}
+use Rattle.addressing.proofs.Laws.{choice-either}
 use Rattle.wordaddress.specs.declared.Register.{Register}
 use Rattle.wordaddress.specs.declared.Register.the-variants.{Security, Configuration, Lock, Nowhere}
 use Rattle.wordaddress.specs.WordAddress.{registerOf, isLock, takeNamed, takeWord}
@@ -45,15 +46,6 @@ module _ (c : Control) (byte : ℕ) where
   to-call HostF9 = either NoByte (c .chosen) _ _ refl refl
   to-call Nobody = refl
 
-  to-choice : (call : Call) → NoByte (takeChosen call c)
-  to-choice ReadArray = refl
-  to-choice (WriteArray a16) = refl
-  to-choice ReadRegister = refl
-  to-choice WriteRegister = refl
-  to-choice HostF8 = refl
-  to-choice HostF9 = refl
-  to-choice Nobody = refl
-
   to-named : (first : ℕ) (register : Register) → NoByte (takeNamed register first c byte)
   to-named first Security = refl
   to-named first Configuration = refl
@@ -74,11 +66,11 @@ module _ (c : Control) (byte : ℕ) where
   to-data ToNowhere = refl
 
   to-byte : (phase : Phase) → NoByte (takeIn phase c byte)
-  unfolding takeAddress takeChoice
+  unfolding takeAddress
   to-byte Standby = refl
   to-byte Busy = refl
   to-byte AwaitsAddress = to-call (callOf (geometryOf (c .part)) (c .strap) byte)
-  to-byte AwaitsChoice = to-choice (callOf (geometryOf (c .part)) (c .strap) byte)
+  to-byte AwaitsChoice = choice-either c byte NoByte refl refl
   to-byte (AwaitsWord word) = to-word word
   to-byte (TakesData kind) = to-data kind
   to-byte (SendsByte source) = refl

@@ -9,7 +9,8 @@ use lib.Dec.{ltb}
 use lib.ListN.{length, replicate}
 use borrow.Author.Tests.{not-false}
 use Rattle.base.specs.Fold.{upTo, anyBelow}
-use Rattle.base.proofs.Fold.{up-same, and-both, any-none}
+use Rattle.base.proofs.logic.Laws.{and-both}
+use Rattle.base.proofs.Fold.{up-same, any-none}
 use Rattle.parts.specs.declared.part.Geometry.{Geometry}
 use Rattle.parts.specs.Part.{isPart, geometryOf}
 use Rattle.chip.specs.declared.Chip.{Chip}

@@ -8,7 +8,7 @@ use mathlib.Core.Logic.{_↔_}
 use mathlib.Core.Path.{_≡_, _∙_, refl, sym, ap}
 use lib.Dec.{eqb}
 use borrow.Author.Tests.{eqb-true, eq-eqb}
-use Rattle.base.proofs.Fold.{and-left, and-right}
+use Rattle.base.proofs.logic.Laws.{and-left, and-right}
 use Rattle.refusal.specs.declared.Refusal.{Refusal}
 use Rattle.refusal.specs.declared.Refusal.the-variants.{WrongCount, UnknownPart, StrapOutside, SharedAddress, WrongLength, UnknownKind, WrongValue, Clash, NotWellFormed, ShortBuffer}
 use Rattle.refusal.specs.declared.Verdict.{Verdict}

@@ -10,7 +10,8 @@ use lib.ListN.{getD, take}
 use borrow.Author.Tests.{not-true, not-false}
 use Rattle.base.specs.Fold.{anyBelow}
 use Rattle.base.specs.Word.{wordOf}
-use Rattle.base.proofs.Fold.{and-left, and-right, any-some, any-none, none-any}
+use Rattle.base.proofs.logic.Laws.{and-left, and-right}
+use Rattle.base.proofs.Fold.{any-some, any-none, none-any}
 use Rattle.control.specs.declared.Said.{Said}
 use Rattle.control.specs.declared.Said.the-variants.{Nothing, Ack}
 use Rattle.control.specs.Phase.{isBusy, isSending}

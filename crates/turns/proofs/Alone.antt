@@ -10,7 +10,7 @@ use lib.ListN.{length, take, drop, drop-of-length-le}
 use lib.Seq.{take-all}
 use Rattle.base.specs.Fold.{upTo}
 use Rattle.base.specs.Store.{span}
-use Rattle.base.proofs.Fold.{and-left, and-right}
+use Rattle.base.proofs.logic.Laws.{and-left, and-right}
 use Rattle.base.proofs.Store.{span-length}
 use Rattle.parts.specs.declared.part.Geometry.{Geometry}
 use Rattle.parts.specs.Part.{isPart, geometryOf}

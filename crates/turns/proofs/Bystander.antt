@@ -9,8 +9,8 @@ use lib.Dec.{eqb, ltb, leb}
 use lib.ListN.{length, getD, replicate, getD-replicate, length-replicate}
 use lib.Seq.{ext-getD}
 use borrow.Author.Tests.{ltb-true, leb-true, eqb-true, ne-eqb, not-true, not-false}
-use Rattle.base.proofs.logic.Laws.{either}
-use Rattle.base.proofs.Fold.{and-left, and-right, all-at}
+use Rattle.base.proofs.logic.Laws.{and-left, and-right, either}
+use Rattle.base.proofs.Fold.{all-at}
 use Rattle.parts.specs.Part.{geometryOf}
 use Rattle.parts.specs.Address.{answers, shareAddress}
 use Rattle.parts.proofs.part.Laws.{sound-of}
@@ -20,9 +20,10 @@ use Rattle.load.specs.Load as load
 use Rattle.control.specs.declared.Answered.{Answered}
 use Rattle.control.specs.declared.Said.the-variants.{Nothing, Ack}
 use Rattle.control.specs.declared.phase.Phase.{Phase}
-use Rattle.control.specs.declared.phase.Phase.the-variants.{Standby, Busy, AwaitsAddress, AwaitsChoice, AwaitsWord, TakesData, SendsByte}
+use Rattle.control.specs.declared.phase.Phase.the-variants.{Standby, Busy, AwaitsAddress, AwaitsChoice}
 use Rattle.control.specs.Phase.{isBusy, isSending, isTaking}
 use Rattle.control.specs.Control.{inPhase, choosing}
+use Rattle.control.proofs.phase.Laws.{resting-is}
 use Rattle.addressing.specs.declared.Call.{Call}
 use Rattle.addressing.specs.declared.Call.the-variants.{HostF9, Nobody}
 use Rattle.addressing.specs.Address.{callOf, takeCall, takeAddress, takeChoice}
@@ -144,16 +145,8 @@ module _ (c : Chip) (rest : isAtRest c ≡ true) (marks : length (c .load .marks
 
   -- it is on standby or busy
   two-ways : (G : Type 0) → (c .control .phase ≡ Standby → G) → (c .control .phase ≡ Busy → G) → G
-  two-ways G standby busy = go (c .control .phase) refl still
-    where
-      go : (phase : Phase) → c .control .phase ≡ phase → (not (isSending phase) && not (isTaking phase)) ≡ true → G
-      go Standby is held = standby is
-      go Busy is held = busy is
-      go AwaitsAddress is held = absurd (false≢true held)
-      go AwaitsChoice is held = absurd (false≢true held)
-      go (AwaitsWord word) is held = absurd (false≢true held)
-      go (TakesData kind) is held = absurd (false≢true held)
-      go (SendsByte source) is held = absurd (false≢true held)
+  two-ways G standby busy =
+      resting-is (c .control .phase) sends-nothing takes-nothing (λ (phase : Phase). c .control .phase ≡ phase → G) standby busy refl
 
   pub rest-emptied : load.emptied (c .load) ≡ c .load
   rest-emptied =

@@ -7,7 +7,7 @@ use mathlib.Core.Path.{_≡_, refl}
 use lib.Dec.{eqb}
 use lib.ListN.{length}
 use borrow.Author.Tests.{eqb-true}
-use Rattle.base.proofs.Fold.{and-left, and-right}
+use Rattle.base.proofs.logic.Laws.{and-left, and-right}
 use Rattle.board.specs.declared.Place.{Place}
 use Rattle.decode.specs.Decode.{valueOf}
 use Rattle.turns.specs.Turn.{isStart, isStop, isSent, isF8, isRead, isNaming, isAddressOf, isFirstByte, Next, Anything, AddressByte, ChoiceByte, isRestOfTurn, isTurnAt}

@@ -11,7 +11,7 @@ use lib.Dec.{eqb}
 use lib.ListN.{length, getD, take, drop, length-append, length-drop, List·getD-eq-default}
 use lib.Seq.{take-at, drop-at, take-append-seam, drop-append-seam, take-append-le, drop-append-le, getD-take, getD-drop}
 use borrow.Author.Tests.{eqb-true, eq-eqb}
-use Rattle.base.proofs.Fold.{and-left, and-right, and-both}
+use Rattle.base.proofs.logic.Laws.{and-left, and-right, and-both}
 use Rattle.board.specs.declared.Place.{Place}
 use Rattle.promises.specs.Playing.{World, Bench, after, answersTo}
 use Rattle.promises.proofs.Playing.{answers-append, answers-length}

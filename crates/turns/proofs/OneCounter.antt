@@ -8,7 +8,8 @@ use mathlib.Core.Path.{_≡_, _∙_, refl, sym, ap, subst}
 use lib.Dec.{ltb}
 use lib.ListN.{length, length-map, set, replicate}
 use borrow.Author.Tests.{lt-ltb}
-use Rattle.base.proofs.Fold.{and-left, and-right, and-both, up-same}
+use Rattle.base.proofs.logic.Laws.{and-left, and-right, and-both}
+use Rattle.base.proofs.Fold.{up-same}
 use Rattle.base.proofs.Every.{every-of}
 use Rattle.parts.specs.Part.{geometryOf}
 use Rattle.parts.proofs.part.Laws.{sound-of}

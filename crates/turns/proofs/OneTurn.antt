@@ -10,7 +10,8 @@ use lib.Dec.{eqb, ltb}
 use lib.ListN.{getD}
 use borrow.Author.Tests.{eqb-true, eqb-false, ltb-true}
 use Rattle.base.specs.Fold.{upTo}
-use Rattle.base.proofs.Fold.{and-left, and-right, all-at, all-each, any-pair-none}
+use Rattle.base.proofs.logic.Laws.{and-left, and-right}
+use Rattle.base.proofs.Fold.{all-at, all-each, any-pair-none}
 use Rattle.parts.specs.Part.{geometryOf}
 use Rattle.parts.specs.Address.{shareAddress}
 use Rattle.chip.specs.declared.Chip.{Chip}

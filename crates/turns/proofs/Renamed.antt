@@ -7,7 +7,7 @@ use mathlib.Core.Path.{_≡_, _∙_, refl, sym, subst}
 use lib.Dec.{ltb, leb}
 use borrow.Author.Tests.{eqb-true, ne-eqb, leb-true}
 use Rattle.base.specs.Word.{wordOf}
-use Rattle.base.proofs.Fold.{and-left, and-right, and-both, or-left, or-right}
+use Rattle.base.proofs.logic.Laws.{and-left, and-right, and-both, or-left, or-right}
 use Rattle.board.specs.declared.Place.{Place}
 use Rattle.board.specs.Place.{placeAt}
 use Rattle.decode.specs.Decode.{kindOf, valueOf}

@@ -4,27 +4,28 @@ use Prim.Native.Nat.{ℕ, _%_}
 use mathlib.Core.Bool.{Bool, true, false, cond, not, _&&_, _||_, false≢true}
 use mathlib.Core.List.{List}
 use mathlib.Core.Path.{_≡_, refl}
-use Rattle.base.proofs.logic.Laws.{either}
-use Rattle.base.proofs.Fold.{and-left, and-right, or-right}
+use Rattle.base.proofs.logic.Laws.{and-left, and-right, or-right, or-either, either-if, either}
 use Rattle.load.specs.declared.Load.{Load}
 use Rattle.load.specs.Load as load
 use Rattle.load.proofs.Laws.{within-emptied}
 use Rattle.control.specs.declared.Control.{Control}
 use Rattle.control.specs.declared.Said.the-variants.{Nothing, Ack}
 use Rattle.control.specs.declared.phase.Phase.{Phase}
-use Rattle.control.specs.declared.phase.Phase.the-variants.{Standby, Busy, AwaitsAddress, AwaitsChoice, AwaitsWord, TakesData, SendsByte}
+use Rattle.control.specs.declared.phase.Phase.the-variants.{Busy, AwaitsAddress}
 use Rattle.control.specs.declared.phase.Data.{Data}
 use Rattle.control.specs.declared.phase.Data.the-variants.{ToArray, ToSecurity, ToConfiguration, ToLock, ToNowhere}
 use Rattle.control.specs.declared.phase.Came.{Came}
 use Rattle.control.specs.declared.phase.Came.the-variants.{Zero, One, Two, Three, More}
 use Rattle.control.specs.Phase.{isBusy, isSending, isTaking, awaitsAddress}
-use Rattle.control.specs.Control.{inPhase, idlockedNow, configured}
+use Rattle.control.specs.Control.{idlockedNow, configured}
 use Rattle.control.specs.Exchange.{standbyNow, busyNow}
 use Rattle.control.specs.Bits.{configlock}
+use Rattle.control.proofs.phase.Laws.{busy-is, awaits-address-is}
 use Rattle.configuration.specs.Configuration.{confirms, stopConfiguration}
 use Rattle.addressing.specs.Address.{callOf, takeAddress}
 use Rattle.taking.specs.Taking as taking
 use Rattle.cycle.specs.Stop.{writesArray, writesSecurity, stopData, stop}
+use Rattle.cycle.proofs.Laws.{stop-either}
 use Rattle.chip.specs.declared.Chip.{Chip}
 use Rattle.chip.specs.declared.event.Event.{Event}
 use Rattle.chip.specs.declared.event.Event.the-variants.{Start, Stop, Sent, Read, Wp, CycleOver, PowerUp}
@@ -63,7 +64,13 @@ module _ (held : Load) where
 -- a busy chip takes no notice, but it is not chosen and holds no load
 pub stop-rests : (c : Chip) (a s : List ℕ) → wellFormed c ≡ true → isAtRest (step c a s Stop .0 .chip) ≡ true
 unfolding step stop wellFormed
-stop-rests c a s formed = go (c .control .phase) refl
+stop-rests c a s formed =
+    either-if (λ (x : Chip × List ℕ × List ℕ). isAtRest (x .0) ≡ true) (isBusy (c .control .phase)) (c, a, s) _
+    (λ busy. let is = busy-is (c .control .phase) busy in rw (is, rw is at empty, rw is at unchosen))
+    (stop-either (c .control) (c .load) a s (λ (x : Control × List ℕ × List ℕ). Rests (c .load) (x .0)) (c .control .phase)
+    (λ is. rw (is, rw is at unchosen, within-emptied 0 (c .load)))
+    (standby-now-rests (c .load) (c .control))
+    (λ kind takes. data-rests (c .load) kind (c .control) a s))
   where
     empty : load.within (loadMost (c .control)) (c .load) ≡ true
     empty = and-right (controlFits (c .control)) _ formed
@@ -72,18 +79,6 @@ stop-rests c a s formed = go (c .control .phase) refl
     unchosen =
         and-right (unusedBitsClear (c .control) && placeFits (c .control .phase)) _
         (and-right (isSetUp (c .control) && countersFit (c .control)) _ (and-left _ _ formed))
-
-    over : Rests (c .load) (standbyNow (c .control))
-    over = standby-now-rests (c .load) (c .control)
-
-    go : (phase : Phase) → c .control .phase ≡ phase → isAtRest (step c a s Stop .0 .chip) ≡ true
-    go Standby is = rw is over
-    go Busy is = rw (is, rw is at empty, rw is at unchosen)
-    go AwaitsAddress is = rw is over
-    go AwaitsChoice is = rw is over
-    go (AwaitsWord word) is = rw is over
-    go (TakesData kind) is = rw is (data-rests (c .load) kind (inPhase (TakesData kind) (c .control)) a s)
-    go (SendsByte source) is = rw is over
 
 pub named-rests : (c : Chip) (a s : List ℕ) (event : Event) → isNamed event ≡ true → isAtRest c ≡ true → isAtRest (step c a s event .0 .chip) ≡ true
 unfolding step
@@ -111,13 +106,10 @@ start-heeds c a s = go (isBusy (c .control .phase)) refl
     go false is = refl
 
 heeds : (phase : Phase) → isHeeding phase ≡ true → (P : Phase → Type 0) → P AwaitsAddress → P Busy → P phase
-heeds Standby heeding P address busy = absurd (false≢true heeding)
-heeds Busy heeding P address busy = busy
-heeds AwaitsAddress heeding P address busy = address
-heeds AwaitsChoice heeding P address busy = absurd (false≢true heeding)
-heeds (AwaitsWord word) heeding P address busy = absurd (false≢true heeding)
-heeds (TakesData kind) heeding P address busy = absurd (false≢true heeding)
-heeds (SendsByte source) heeding P address busy = absurd (false≢true heeding)
+heeds phase heeding P address busy =
+    or-either (awaitsAddress phase) (isBusy phase) heeding
+    (λ awaits. rw (awaits-address-is phase awaits) address)
+    (λ is. rw (busy-is phase is) busy)
 
 pub heeding-sends-nothing : (phase : Phase) → isHeeding phase ≡ true → isSending phase ≡ false
 heeding-sends-nothing phase heeding = heeds phase heeding (λ (p : Phase). isSending p ≡ false) refl refl

@@ -8,7 +8,7 @@ use mathlib.Core.List.{List, [], _∷_, map}
 use mathlib.Core.Path.{_≡_, _∙_, refl, sym, ap}
 use lib.ListN.{length, getD, drop}
 use borrow.Author.Tests.{ltb-true, ne-eqb}
-use Rattle.base.proofs.Fold.{and-left, and-right}
+use Rattle.base.proofs.logic.Laws.{and-left, and-right}
 use Rattle.board.specs.declared.Place.{Place}
 use Rattle.lineup.specs.Chips.{placesOf}
 use Rattle.bus.specs.Step.{step}

@@ -26,7 +26,8 @@ use Rattle.board.proofs.Laws.{placed-most}
 use Rattle.line.specs.Line.{chipTakes, play}
 use Rattle.parts.specs.declared.part.Geometry.{Geometry}
 use Rattle.line.proofs.Takes.{world, share-ends, share-lies, next-begins, lent, back, chip-takes, none-takes}
-use Rattle.base.proofs.Fold.{and-left, and-right, up-end}
+use Rattle.base.proofs.logic.Laws.{and-left, and-right}
+use Rattle.base.proofs.Fold.{up-end}
 use borrow.Rule.Slice.PartMut.{same-len-mid}
 use borrow.Author.Tests.{ltb-true}
 use Prim.Native.Nat.{ℕ, _≤_, _-_, _+_, _*_, _^_}

@@ -9,7 +9,7 @@ use mathlib.Core.Logic.{_↔_}
 use mathlib.Core.Path.{_≡_, refl}
 use lib.Dec.{ltb}
 use borrow.Author.Tests.{lt-ltb, ltb-true, eq-eqb, eqb-true}
-use Rattle.base.proofs.Fold.{and-left, and-right, and-both}
+use Rattle.base.proofs.logic.Laws.{and-left, and-right, and-both}
 use Rattle.parts.specs.declared.part.Geometry.{Geometry}
 use Rattle.parts.specs.Part.{geometry24CSM01, geometry24CS32, Sound}
 use Rattle.parts.specs.Address.{codesOf, answers, firstCode, shareAddress}

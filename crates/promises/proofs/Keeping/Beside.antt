@@ -5,7 +5,7 @@ use mathlib.Core.Bool.{Bool, true, false, cond, not, _&&_, _||_, true≢false, f
 use mathlib.Core.List.{List}
 use mathlib.Core.Path.{_≡_, _∙_, refl, sym}
 use lib.Dec.{eqb}
-use Rattle.base.proofs.Fold.{and-left, and-right, and-both, or-left, or-right}
+use Rattle.base.proofs.logic.Laws.{and-left, and-right, and-both, or-left, or-right, either-if}
 use Rattle.parts.specs.Part.{geometryOf}
 use Rattle.parts.specs.Address.{answers, shareAddress}
 use Rattle.parts.proofs.part.Laws.{sound-of}
@@ -13,9 +13,10 @@ use Rattle.parts.proofs.address.Laws.{share-exactly-when}
 use Rattle.control.specs.declared.Control.{Control}
 use Rattle.control.specs.declared.Answered.{Answered}
 use Rattle.control.specs.declared.phase.Phase.{Phase}
-use Rattle.control.specs.declared.phase.Phase.the-variants.{Standby, Busy, AwaitsAddress, AwaitsChoice, AwaitsWord, TakesData, SendsByte}
-use Rattle.control.specs.Phase.{isBusy, isAwaiting, awaitsAddress}
+use Rattle.control.specs.declared.phase.Phase.the-variants.{Standby, Busy}
+use Rattle.control.specs.Phase.{isBusy, isSending, isTaking, isAwaiting, awaitsAddress}
 use Rattle.control.specs.Control.{inPhase}
+use Rattle.control.proofs.phase.Laws.{busy-is, awaits-address-is, awaiting-is, resting-is}
 use Rattle.addressing.specs.declared.Call.{Call}
 use Rattle.addressing.specs.declared.Call.the-variants.{HostF8, HostF9, Nobody}
 use Rattle.addressing.specs.Address.{callOf, takeCall, takeAddress, takeChosen, takeChoice}
@@ -47,16 +48,15 @@ alone : (a : Bool) → (a || false) ≡ true → a ≡ true
 alone true test = refl
 alone false test = test
 
+fails : (test : Bool) → Never test → test ≡ false
+fails true never = absurd (never refl)
+fails false never = refl
+
 not-both : (a b : Bool) → not (a && b) ≡ true → a ≡ true → Never b
 not-both a b test one two = false≢true (rw (one, two) at test)
 
 both-not : (a b : Bool) → (a ≡ true → Never b) → not (a && b) ≡ true
 both-not a b fact = alone _ (unless-not a b false (λ one two. absurd (fact one two)))
-
--- a choice by a test: its first side may use that it holds
-either-if : {A : Type 0} (P : A → Type 0) (test : Bool) (x y : A) → (test ≡ true → P x) → P y → P (cond test x y)
-either-if P true x y px py = px refl
-either-if P false x y px py = py
 
 -- what `sideBySide` tests
 record Beside (c d : Control) : Type 0 where
@@ -91,47 +91,18 @@ inert-beside : {c d : Control} → Inert c → Beside c d
 inert-beside inert =
     record { one = λ is. absurd (inert .0 is); first = λ is. absurd (inert .0 is); second = λ is waits. absurd (inert .1 waits) }
 
--- the phases of an inert chip, of one that awaits, and of a busy one
-rests : (phase : Phase) (c : Control) → Inert (inPhase phase c) → (P : Phase → Type 0) → P Standby → P Busy → P phase
-rests Standby c inert P standby busy = standby
-rests Busy c inert P standby busy = busy
-rests AwaitsAddress c inert P standby busy = absurd (inert .1 refl)
-rests AwaitsChoice c inert P standby busy = absurd (inert .1 refl)
-rests (AwaitsWord word) c inert P standby busy = absurd (inert .0 (or-right (c .chosen) _ refl))
-rests (TakesData kind) c inert P standby busy = absurd (inert .0 (or-right (c .chosen) _ refl))
-rests (SendsByte source) c inert P standby busy = absurd (inert .0 (or-right (c .chosen) _ refl))
-
-awaits : (phase : Phase) → isAwaiting phase ≡ true → (P : Phase → Type 0) → P AwaitsAddress → P AwaitsChoice → P phase
-awaits Standby waits P address choice = absurd (false≢true waits)
-awaits Busy waits P address choice = absurd (false≢true waits)
-awaits AwaitsAddress waits P address choice = address
-awaits AwaitsChoice waits P address choice = choice
-awaits (AwaitsWord word) waits P address choice = absurd (false≢true waits)
-awaits (TakesData kind) waits P address choice = absurd (false≢true waits)
-awaits (SendsByte source) waits P address choice = absurd (false≢true waits)
-
-busy-is : (phase : Phase) → isBusy phase ≡ true → phase ≡ Busy
-busy-is Standby busy = absurd (false≢true busy)
-busy-is Busy busy = refl
-busy-is AwaitsAddress busy = absurd (false≢true busy)
-busy-is AwaitsChoice busy = absurd (false≢true busy)
-busy-is (AwaitsWord word) busy = absurd (false≢true busy)
-busy-is (TakesData kind) busy = absurd (false≢true busy)
-busy-is (SendsByte source) busy = absurd (false≢true busy)
-
-address-awaits : (phase : Phase) → awaitsAddress phase ≡ true → isAwaiting phase ≡ true
-address-awaits Standby waits = waits
-address-awaits Busy waits = waits
-address-awaits AwaitsAddress waits = refl
-address-awaits AwaitsChoice waits = refl
-address-awaits (AwaitsWord word) waits = waits
-address-awaits (TakesData kind) waits = waits
-address-awaits (SendsByte source) waits = waits
+-- it is on standby or busy
+rests : (c : Control) → Inert c → (P : Phase → Type 0) → P Standby → P Busy → P (c .phase)
+rests c (quiet, unmoved) =
+    let silent : Never (isSending (c .phase)) = λ sends. quiet (or-right (c .chosen) _ (or-left _ _ sends)) in
+    let waits = fails (isAwaiting (c .phase)) unmoved in
+    let deaf : Never (isTaking (c .phase)) = λ takes. quiet (or-right (c .chosen) _ (or-right (isSending (c .phase)) _ (rw (takes, waits)))) in
+    resting-is (c .phase) (fails _ silent) (fails _ deaf)
 
 -- beside a chip that awaits, one that does not is inert
 other-inert : {c d : Control} → Beside c d → isAwaiting (c .phase) ≡ true → isAwaiting (d .phase) ≡ false → Inert d
 other-inert {d = d} b waits elsewhere =
-    (λ is. true≢false (sym (address-awaits (d .phase) (b .second is waits)) ∙ elsewhere), λ is. true≢false (sym is ∙ elsewhere))
+    (λ is. true≢false (rw (awaits-address-is (d .phase) (b .second is waits)) at elsewhere), λ is. true≢false (sym is ∙ elsewhere))
 
 -- so both await or one is inert; where an inert chip stays inert, only the case that both await is left
 unless-both-await : (c d : Control) {c′ d′ : Control} → Beside c d → (Inert c → Inert c′) → (Inert d → Inert d′)
@@ -210,7 +181,7 @@ listens : (c : Control) (byte : ℕ) (P : Control → Type 0) → isAwaiting (c 
     → P (takeIn (c .phase) c byte .control)
 unfolding takeAddress takeChoice
 listens c byte P waits settled all =
-    awaits (c .phase) waits (λ (phase : Phase). (isActive c ≡ true → awaitsAddress phase ≡ true) → P (takeIn phase c byte .control))
+    awaiting-is (c .phase) waits (λ (phase : Phase). (isActive c ≡ true → awaitsAddress phase ≡ true) → P (takeIn phase c byte .control))
     (λ address. all _ (address-hears c))
     (λ address. all _ (choice-hears c (λ is. false≢true (address is))))
     settled
@@ -245,13 +216,13 @@ both-hear c d byte unshared b is other =
 
 -- an inert chip takes no notice of a byte, and one that awaits none of a read
 take-inert : (c : Control) (byte : ℕ) → Inert c → Inert (takeIn (c .phase) c byte .control)
-take-inert c byte inert = rests (c .phase) c inert (λ (phase : Phase). Inert (takeIn phase c byte .control)) inert inert
+take-inert c byte inert = rests c inert (λ (phase : Phase). Inert (takeIn phase c byte .control)) inert inert
 
 read-inert : (c : Control) (array security : List ℕ) (nack : Bool) → Inert c → Inert (readIn (c .phase) c array security nack .control)
-read-inert c array security nack inert = rests (c .phase) c inert (λ (phase : Phase). Inert (readIn phase c array security nack .control)) inert inert
+read-inert c array security nack inert = rests c inert (λ (phase : Phase). Inert (readIn phase c array security nack .control)) inert inert
 
 read-awaiting : (c : Control) (array security : List ℕ) (nack : Bool) → isAwaiting (c .phase) ≡ true → readIn (c .phase) c array security nack .control ≡ c
-read-awaiting c array security nack waits = awaits (c .phase) waits (λ (phase : Phase). readIn phase c array security nack .control ≡ c) refl refl
+read-awaiting c array security nack waits = awaiting-is (c .phase) waits (λ (phase : Phase). readIn phase c array security nack .control ≡ c) refl refl
 
 -- Stop
 module _ (c : Chip) (array security : List ℕ) (formed : wellFormed c ≡ true) where
@@ -264,10 +235,10 @@ module _ (c : Chip) (array security : List ℕ) (formed : wellFormed c ≡ true)
       either-if (λ (x : Chip × List ℕ × List ℕ). Inert (x .0 .control)) (isBusy (c .control .phase)) (c, array, security) _ (busy-inert c formed) ends
 
   inert-stops : Inert (c .control) → Inert (chip.stop c array security .0 .control)
-  inert-stops inert = stop-inert (rests (c .control .phase) (c .control) inert Ends (false≢true, false≢true) inert)
+  inert-stops inert = stop-inert (rests (c .control) inert Ends (false≢true, false≢true) inert)
 
   awaiting-stops : isAwaiting (c .control .phase) ≡ true → Inert (chip.stop c array security .0 .control)
-  awaiting-stops waits = stop-inert (awaits (c .control .phase) waits Ends (false≢true, false≢true) (false≢true, false≢true))
+  awaiting-stops waits = stop-inert (awaiting-is (c .control .phase) waits Ends (false≢true, false≢true) (false≢true, false≢true))
 
 -- the end of a cycle: a busy chip awaits nothing, and on standby it is active only where chosen
 over-beside : (c : Chip) (d : Control) → Beside (c .control) d → Beside (chip.cycleOver c .control) d

@@ -4,6 +4,7 @@ use Prim.Native.Nat.{ℕ, _*_}
 use native.Mathlib.Omega.{arith}
 use mathlib.Core.Bool.{Bool, cond, not, _&&_}
 use mathlib.Core.List.{List, [], _∷_}
+use mathlib.Core.Path.{subst}
 use lib.Dec.{eqb}
 use Rattle.base.specs.Every.{FitsByte, AllBytes}
 use Rattle.base.proofs.logic.Laws.{either}
@@ -31,14 +32,17 @@ use Rattle.control.specs.Bits.{configlock}
 use Rattle.control.specs.Control.{inPhase}
 use Rattle.addressing.specs.declared.Call.{Call}
 use Rattle.addressing.specs.declared.Call.the-variants.{ReadArray, WriteArray, ReadRegister, WriteRegister, HostF8, HostF9, Nobody}
-use Rattle.addressing.specs.Address.{callOf, takeCall, takeAddress, takeChosen, takeChoice}
+use Rattle.addressing.specs.Address.{callOf, takeCall, takeAddress}
+use Rattle.addressing.proofs.Laws.{choice-either}
 use Rattle.wordaddress.specs.declared.Register.{Register}
 use Rattle.wordaddress.specs.declared.Register.the-variants.{Security, Configuration, Lock, Nowhere}
 use Rattle.wordaddress.specs.WordAddress.{registerOf, isLock, takeNamed, takeWord}
 use Rattle.taking.specs.Taking.{cameMore, takeData, takeIn, take}
 use Rattle.sending.specs.Sending.{noByte, byteFrom, movedPast, readIn, read}
+use Rattle.sending.proofs.Laws.{read-either}
 use Rattle.configuration.specs.Configuration.{confirms, stopConfiguration}
 use Rattle.cycle.specs.Stop.{writesArray, writesSecurity, stopData, stopIn, stop}
+use Rattle.cycle.proofs.Laws.{stop-either}
 use Rattle.chip.specs.declared.Chip.{Chip}
 use Rattle.chip.specs.declared.event.Event.{Event}
 use Rattle.chip.specs.declared.event.Event.the-variants.{Start, Stop, Sent, Read, Wp, CycleOver, PowerUp}
@@ -76,15 +80,6 @@ module _ (c : Control) (byte : ℕ) (now : ControlBytes c) (sent : FitsByte byte
   to-call HostF9 = either Answers (c .chosen) _ _ plain plain
   to-call Nobody = plain
 
-  to-choice : (call : Call) → Answers (takeChosen call c)
-  to-choice ReadArray = plain
-  to-choice (WriteArray a16) = plain
-  to-choice ReadRegister = plain
-  to-choice WriteRegister = plain
-  to-choice HostF8 = plain
-  to-choice HostF9 = plain
-  to-choice Nobody = plain
-
   to-named : (first : ℕ) (register : Register) → Answers (takeNamed register first c byte)
   to-named first Security = plain
   to-named first Configuration = plain
@@ -109,11 +104,11 @@ module _ (c : Control) (byte : ℕ) (now : ControlBytes c) (sent : FitsByte byte
   to-data ToNowhere held = plain
 
   take-bytes : (phase : Phase) → AllBytes (bytesIn phase) → Answers (takeIn phase c byte)
-  unfolding takeAddress takeChoice
+  unfolding takeAddress
   take-bytes Standby held = (now, tt)
   take-bytes Busy held = (now, tt)
   take-bytes AwaitsAddress held = to-call (callOf (geometryOf (c .part)) (c .strap) byte)
-  take-bytes AwaitsChoice held = to-choice (callOf (geometryOf (c .part)) (c .strap) byte)
+  take-bytes AwaitsChoice held = choice-either c byte Answers plain plain
   take-bytes (AwaitsWord word) held = to-word word
   take-bytes (TakesData kind) held = to-data kind held
   take-bytes (SendsByte source) held = (now, tt)
@@ -132,13 +127,8 @@ module _ (c : Control) (array security : List ℕ) (now : ControlBytes c) where
   moved-bytes FromNothing = now
 
   read-bytes : (phase : Phase) (nack : Bool) → ControlBytes (readIn phase c array security nack .control)
-  read-bytes Standby nack = now
-  read-bytes Busy nack = now
-  read-bytes AwaitsAddress nack = now
-  read-bytes AwaitsChoice nack = now
-  read-bytes (AwaitsWord word) nack = now
-  read-bytes (TakesData kind) nack = now
-  read-bytes (SendsByte source) nack =
+  read-bytes phase nack =
+      read-either c array security nack (λ (x : Answered). ControlBytes (x .control)) now phase λ source sends.
       let moved = moved-bytes source in
       either ControlBytes nack (inPhase Standby (movedPast source c)) (movedPast source c) (rests (movedPast source c) moved) moved
 
@@ -152,13 +142,7 @@ module _ (c : Control) (array security : List ℕ) (now : ControlBytes c) where
     byte-from FromNothing = omega arith
 
     read-says : (phase : Phase) (nack : Bool) → SaidByte (readIn phase c array security nack .said)
-    read-says Standby nack = tt
-    read-says Busy nack = tt
-    read-says AwaitsAddress nack = tt
-    read-says AwaitsChoice nack = tt
-    read-says (AwaitsWord word) nack = tt
-    read-says (TakesData kind) nack = tt
-    read-says (SendsByte source) nack = byte-from source
+    read-says phase nack = read-either c array security nack (λ (x : Answered). SaidByte (x .said)) tt phase (λ source sends. byte-from source)
 
 -- Stop
 page-stored : (g : Geometry) (at : ℕ) (load : Load) (store : List ℕ) → AllBytes (load .values) → AllBytes store → AllBytes (storePage g at load store)
@@ -191,13 +175,9 @@ module _ (c : Control) (load : Load) (array security : List ℕ) (now : ControlB
   data-stopped ToNowhere held = over
 
   stop-bytes : (phase : Phase) → AllBytes (bytesIn phase) → ControlBytes (stopIn phase c load array security .0)
-  stop-bytes Standby held = over
-  stop-bytes Busy held = now
-  stop-bytes AwaitsAddress held = over
-  stop-bytes AwaitsChoice held = over
-  stop-bytes (AwaitsWord word) held = over
-  stop-bytes (TakesData kind) held = data-stopped kind held
-  stop-bytes (SendsByte source) held = over
+  stop-bytes phase held =
+      stop-either c load array security (λ (x : Control × List ℕ × List ℕ). ControlBytes (x .0)) phase (λ busy. now) over
+      (λ kind takes. data-stopped kind (subst (λ (p : Phase). AllBytes (bytesIn p)) takes held))
 
 -- both shares
 abbrev Shares : List ℕ → List ℕ → Type 0

@@ -3,10 +3,9 @@
 use Prim.Native.Nat.{ℕ, _%_}
 use mathlib.Core.Bool.{Bool, true, false, cond, not, _&&_}
 use mathlib.Core.List.{List}
-use mathlib.Core.Path.{_≡_, refl}
+use mathlib.Core.Path.{_≡_}
 use borrow.Author.Tests.{not-true}
-use Rattle.base.proofs.logic.Laws.{either}
-use Rattle.base.proofs.Fold.{and-right}
+use Rattle.base.proofs.logic.Laws.{and-right, either-if, either}
 use Rattle.parts.specs.Part.{geometryOf}
 use Rattle.load.specs.declared.Load.{Load}
 use Rattle.control.specs.declared.Control.{Control}
@@ -24,18 +23,20 @@ use Rattle.control.specs.declared.phase.Source.the-variants.{FromArray, FromSec
 use Rattle.control.specs.declared.phase.Shown.{Shown}
 use Rattle.control.specs.Phase.{isBusy}
 use Rattle.control.specs.Control.{inPhase, showing, choosing, arraycounterAt, securitycounterAt, idlockedNow, configured, wpAt}
-use Rattle.control.specs.Exchange.{standbyNow, busyNow}
 use Rattle.addressing.specs.declared.Call.{Call}
 use Rattle.addressing.specs.declared.Call.the-variants.{ReadArray, WriteArray, ReadRegister, WriteRegister, HostF8, HostF9, Nobody}
-use Rattle.addressing.specs.Address.{callOf, takeCall, takeAddress, takeChosen, takeChoice}
+use Rattle.addressing.specs.Address.{callOf, takeCall, takeAddress}
+use Rattle.addressing.proofs.Laws.{choice-either}
 use Rattle.wordaddress.specs.declared.Register.{Register}
 use Rattle.wordaddress.specs.declared.Register.the-variants.{Security, Configuration, Lock, Nowhere}
 use Rattle.wordaddress.specs.WordAddress.{registerOf, isLock, takeNamed, takeWord}
 use Rattle.taking.specs.Taking.{takeData, takeIn, take}
 use Rattle.sending.specs.Sending.{movedPast, readIn, read}
+use Rattle.sending.proofs.Laws.{read-either}
 use Rattle.control.specs.Bits.{configlock}
 use Rattle.configuration.specs.Configuration.{confirms, stopConfiguration}
 use Rattle.cycle.specs.Stop.{writesArray, writesSecurity, stopData, stopIn, stop}
+use Rattle.cycle.proofs.Laws.{stop-either}
 use Rattle.chip.specs.declared.Chip.{Chip}
 use Rattle.chip.specs.declared.event.Event.{Event}
 use Rattle.chip.specs.declared.event.Event.the-variants.{Start, Stop, Sent, Read, Wp, CycleOver, PowerUp}
@@ -69,15 +70,6 @@ module _ (P : Control → Type 0) (closed : Closed P) where
   call-keeps HostF9 c p = told (c .chosen) _ _ (closed .phase c _ p) (closed .phase c _ p)
   call-keeps Nobody c p = after c false _ p
 
-  chosen-keeps : (call : Call) (c : Control) → P c → P (takeChosen call c .control)
-  chosen-keeps ReadArray c p = after c true _ p
-  chosen-keeps (WriteArray a16) c p = after c true _ p
-  chosen-keeps ReadRegister c p = closed .phase c _ p
-  chosen-keeps WriteRegister c p = closed .phase c _ p
-  chosen-keeps HostF8 c p = closed .phase c _ p
-  chosen-keeps HostF9 c p = closed .phase c _ p
-  chosen-keeps Nobody c p = closed .phase c _ p
-
   named-keeps : (register : Register) (first : ℕ) (c : Control) (byte : ℕ) → P c → P (takeNamed register first c byte .control)
   named-keeps Security first c byte p = closed .phase _ _ (closed .shown _ _ (closed .security c _ p))
   named-keeps Configuration first c byte p = closed .phase _ _ (closed .shown c _ p)
@@ -98,11 +90,11 @@ module _ (P : Control → Type 0) (closed : Closed P) where
   data-keeps ToNowhere c byte p = closed .phase c _ p
 
   take-keeps : (phase : Phase) (c : Control) (byte : ℕ) → P c → P (takeIn phase c byte .control)
-  unfolding takeAddress takeChoice
+  unfolding takeAddress
   take-keeps Standby c byte p = p
   take-keeps Busy c byte p = p
   take-keeps AwaitsAddress c byte p = call-keeps (callOf (geometryOf (c .part)) (c .strap) byte) c p
-  take-keeps AwaitsChoice c byte p = chosen-keeps (callOf (geometryOf (c .part)) (c .strap) byte) c p
+  take-keeps AwaitsChoice c byte p = choice-either c byte (λ (x : Answered). P (x .control)) (after c true _ p) (closed .phase c _ p)
   take-keeps (AwaitsWord word) c byte p = word-keeps word c byte p
   take-keeps (TakesData kind) c byte p = data-keeps kind c byte p
   take-keeps (SendsByte source) c byte p = p
@@ -115,30 +107,19 @@ module _ (P : Control → Type 0) (closed : Closed P) where
   moved-keeps FromNothing c p = p
 
   read-keeps : (phase : Phase) (c : Control) (array security : List ℕ) (nack : Bool) → P c → P (readIn phase c array security nack .control)
-  read-keeps Standby c array security nack p = p
-  read-keeps Busy c array security nack p = p
-  read-keeps AwaitsAddress c array security nack p = p
-  read-keeps AwaitsChoice c array security nack p = p
-  read-keeps (AwaitsWord word) c array security nack p = p
-  read-keeps (TakesData kind) c array security nack p = p
-  read-keeps (SendsByte source) c array security nack p =
+  read-keeps phase c array security nack p =
+      read-either c array security nack (λ (x : Answered). P (x .control)) p phase λ source sends.
       either P nack (inPhase Standby (movedPast source c)) (movedPast source c) (closed .phase _ _ (moved-keeps source c p)) (moved-keeps source c p)
 
-  -- a test that names the lock: where it holds, the lock is open
-  configure-keeps : (first second third : ℕ) (c : Control) → P c → (test : Bool) → (confirms first third && not (configlock c)) ≡ test → P (cond test (busyNow (configured (first % 4) second c)) (standbyNow c))
-  configure-keeps first second third c p true is =
-      after _ false Busy (closed .configures c (first % 4) second (not-true (configlock c) (and-right (confirms first third) _ is)) p)
-  configure-keeps first second third c p false is = after c false Standby p
-
-  lock-keeps : (some : Bool) (c : Control) → P c → (test : Bool) → (some && not (c .idlocked)) ≡ test → P (cond test (busyNow (idlockedNow c)) (standbyNow c))
-  lock-keeps some c p true is = after _ false Busy (closed .locks c (not-true (c .idlocked) (and-right some _ is)) p)
-  lock-keeps some c p false is = after c false Standby p
-
+  -- where a test that names the lock holds, the lock is open
   came-keeps : (came : Came) (c : Control) → P c → P (stopConfiguration came c)
   came-keeps Zero c p = after c false Standby p
   came-keeps (One first) c p = after c false Standby p
   came-keeps (Two first second) c p = after c false Standby p
-  came-keeps (Three first second third) c p = configure-keeps first second third c p (confirms first third && not (configlock c)) refl
+  came-keeps (Three first second third) c p =
+      either-if P (confirms first third && not (configlock c)) _ _
+      (λ is. after _ false Busy (closed .configures c (first % 4) second (not-true (configlock c) (and-right (confirms first third) _ is)) p))
+      (after c false Standby p)
   came-keeps More c p = after c false Standby p
 
   ends-keep : (kind : Data) (c : Control) (load : Load) (array security : List ℕ) → P c → P (stopData kind c load array security .0)
@@ -147,17 +128,16 @@ module _ (P : Control → Type 0) (closed : Closed P) where
   ends-keep ToSecurity c load array security p =
       either (λ (x : Control × List ℕ). P (x .0)) (writesSecurity c load) _ _ (after c false Busy p) (after c false Standby p)
   ends-keep (ToConfiguration came) c load array security p = came-keeps came c p
-  ends-keep (ToLock some) c load array security p = lock-keeps some c p (some && not (c .idlocked)) refl
+  ends-keep (ToLock some) c load array security p =
+      either-if P (some && not (c .idlocked)) _ _
+      (λ is. after _ false Busy (closed .locks c (not-true (c .idlocked) (and-right some _ is)) p))
+      (after c false Standby p)
   ends-keep ToNowhere c load array security p = after c false Standby p
 
   stop-keeps : (phase : Phase) (c : Control) (load : Load) (array security : List ℕ) → P c → P (stopIn phase c load array security .0)
-  stop-keeps Standby c load array security p = after c false Standby p
-  stop-keeps Busy c load array security p = p
-  stop-keeps AwaitsAddress c load array security p = after c false Standby p
-  stop-keeps AwaitsChoice c load array security p = after c false Standby p
-  stop-keeps (AwaitsWord word) c load array security p = after c false Standby p
-  stop-keeps (TakesData kind) c load array security p = ends-keep kind c load array security p
-  stop-keeps (SendsByte source) c load array security p = after c false Standby p
+  stop-keeps phase c load array security p =
+      stop-either c load array security (λ (x : Control × List ℕ × List ℕ). P (x .0)) phase (λ busy. p) (after c false Standby p)
+      (λ kind takes. ends-keep kind c load array security p)
 
   pub step-keeps : (c : Chip) (array security : List ℕ) (event : Event) → P (c .control) → P (chip.step c array security event .0 .chip .control)
   unfolding chip.step take read stop

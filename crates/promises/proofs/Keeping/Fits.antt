@@ -4,7 +4,7 @@ use mathlib.Core.Bool.{Bool, true, not, _&&_}
 use mathlib.Core.Path.{_≡_}
 use lib.Dec.{ltb}
 use borrow.Author.Tests.{lt-ltb}
-use Rattle.base.proofs.Fold.{and-left, and-right, and-both}
+use Rattle.base.proofs.logic.Laws.{and-left, and-right, and-both}
 use Rattle.parts.specs.Part.{geometryOf}
 use Rattle.control.specs.declared.Control.{Control}
 use Rattle.control.specs.declared.phase.Phase.{Phase}

@@ -7,7 +7,7 @@ use mathlib.Core.List.{List}
 use mathlib.Core.Path.{_≡_, refl}
 use lib.ListN.{getD}
 use borrow.Author.Tests.{leb-true}
-use Rattle.base.proofs.Fold.{and-left, and-right}
+use Rattle.base.proofs.logic.Laws.{and-left, and-right}
 use Rattle.parts.specs.Part.{geometryOf}
 use Rattle.parts.proofs.part.Laws.{sound-of}
 use Rattle.regions.specs.Page.{inIdPage}

@@ -5,7 +5,7 @@ use native.Mathlib.Decide.{decLt}
 use native.Mathlib.Omega.{arith}
 use mathlib.Core.Bool.{Bool, true, false, cond, not}
 use mathlib.Core.List.{List}
-use mathlib.Core.Path.{_≡_, refl}
+use mathlib.Core.Path.{_≡_, _∙_, refl}
 use lib.Dec.{leb}
 use borrow.Author.Tests.{lt-ltb, le-ltb, le-leb}
 use Rattle.parts.proofs.part.Laws.{sound-of}
@@ -13,12 +13,14 @@ use Rattle.regions.proofs.page.Laws.{next-below}
 use Rattle.load.specs.declared.Load.{Load}
 use Rattle.load.specs.Load.{within}
 use Rattle.control.specs.declared.Control.{Control}
+use Rattle.control.specs.declared.Answered.{Answered}
 use Rattle.control.specs.declared.phase.Phase.{Phase}
-use Rattle.control.specs.declared.phase.Phase.the-variants.{Standby, Busy, AwaitsAddress, AwaitsChoice, AwaitsWord, TakesData, SendsByte}
+use Rattle.control.specs.declared.phase.Phase.the-variants.{Standby, SendsByte}
 use Rattle.control.specs.declared.phase.Source.{Source}
 use Rattle.control.specs.declared.phase.Source.the-variants.{FromArray, FromSecurity, FromConfiguration, FromId, FromNothing}
 use Rattle.control.specs.Control.{inPhase}
 use Rattle.sending.specs.Sending.{nextIdPlace, movedPast, readIn}
+use Rattle.sending.proofs.Laws.{read-either}
 use Rattle.wellformed.specs.Wellformed.{idPlaceFits}
 use Rattle.promises.proofs.Keeping.Fits.{Fits, in-phase-fits, array-fits, security-fits}
 use Rattle.load.specs.Load.{empty}
@@ -52,12 +54,8 @@ still-sends : (source : Source) (c : Control) (load : Load) → c .phase ≡ Sen
 still-sends source c load is good = rw is at (good .1)
 
 pub read-good : (phase : Phase) (c : Control) (load : Load) (array security : List ℕ) (nack : Bool) → c .phase ≡ phase → Good c load → Good (readIn phase c array security nack .control) load
-read-good Standby c load array security nack is good = good
-read-good Busy c load array security nack is good = good
-read-good AwaitsAddress c load array security nack is good = good
-read-good AwaitsChoice c load array security nack is good = good
-read-good (AwaitsWord word) c load array security nack is good = good
-read-good (TakesData kind) c load array security nack is good = good
-read-good (SendsByte source) c load array security nack is good =
-    let moved = moved-good source c load is good in
-    reply-good (movedPast source c) load (moved .0) (still-sends source c load is good) nack moved
+read-good phase c load array security nack is good =
+    read-either c array security nack (λ (x : Answered). Good (x .control) load) good phase λ source sends.
+    let sending : c .phase ≡ SendsByte source = is ∙ sends in
+    let moved = moved-good source c load sending good in
+    reply-good (movedPast source c) load (moved .0) (still-sends source c load sending good) nack moved

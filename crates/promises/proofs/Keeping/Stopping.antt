@@ -8,7 +8,6 @@ use Rattle.base.proofs.logic.Laws.{either}
 use Rattle.load.specs.declared.Load.{Load}
 use Rattle.control.specs.declared.Control.{Control}
 use Rattle.control.specs.declared.phase.Phase.{Phase}
-use Rattle.control.specs.declared.phase.Phase.the-variants.{Standby, Busy, AwaitsAddress, AwaitsChoice, AwaitsWord, TakesData, SendsByte}
 use Rattle.control.specs.declared.phase.Data.{Data}
 use Rattle.control.specs.declared.phase.Data.the-variants.{ToArray, ToSecurity, ToConfiguration, ToLock, ToNowhere}
 use Rattle.control.specs.declared.phase.Came.{Came}
@@ -18,6 +17,7 @@ use Rattle.control.specs.Exchange.{standbyNow, busyNow}
 use Rattle.control.specs.Bits.{configlock}
 use Rattle.configuration.specs.Configuration.{confirms, stopConfiguration}
 use Rattle.cycle.specs.Stop.{writesArray, writesSecurity, stopData, stopIn}
+use Rattle.cycle.proofs.Laws.{stop-either}
 use Rattle.promises.proofs.Keeping.Fits.{Fits, idlocked-fits, configured-fits}
 use Rattle.promises.proofs.Keeping.Good.{standby-now-fits, busy-now-fits}
 
@@ -43,10 +43,6 @@ data-fits (ToLock some) c load array security f =
 data-fits ToNowhere c load array security f = standby-now-fits c f
 
 pub stop-fits : (phase : Phase) (c : Control) (load : Load) (array security : List ℕ) → Fits c → Fits (stopIn phase c load array security .0)
-stop-fits Standby c load array security f = standby-now-fits c f
-stop-fits Busy c load array security f = f
-stop-fits AwaitsAddress c load array security f = standby-now-fits c f
-stop-fits AwaitsChoice c load array security f = standby-now-fits c f
-stop-fits (AwaitsWord word) c load array security f = standby-now-fits c f
-stop-fits (TakesData kind) c load array security f = data-fits kind c load array security f
-stop-fits (SendsByte source) c load array security f = standby-now-fits c f
+stop-fits phase c load array security f =
+    stop-either c load array security (λ (x : Control × List ℕ × List ℕ). Fits (x .0)) phase (λ busy. f) (standby-now-fits c f)
+    (λ kind takes. data-fits kind c load array security f)

@@ -24,11 +24,12 @@ use Rattle.control.specs.declared.phase.Came.the-variants.{Zero}
 use Rattle.control.specs.declared.phase.Source.the-variants.{FromArray, FromId}
 use Rattle.control.specs.declared.phase.Shown.{Shown}
 use Rattle.control.specs.declared.phase.Shown.the-variants.{ShowsSecurity, ShowsConfiguration, ShowsNothing}
-use Rattle.control.specs.Control.{inPhase, showing, choosing}
+use Rattle.control.specs.Control.{inPhase, showing}
 use Rattle.control.specs.Said.{acked, silent}
 use Rattle.addressing.specs.declared.Call.{Call}
 use Rattle.addressing.specs.declared.Call.the-variants.{ReadArray, WriteArray, ReadRegister, WriteRegister, HostF8, HostF9, Nobody}
-use Rattle.addressing.specs.Address.{callOf, sourceOf, takeCall, takeAddress, takeChosen, takeChoice}
+use Rattle.addressing.specs.Address.{callOf, sourceOf, takeCall, takeAddress, takeChoice}
+use Rattle.addressing.proofs.Laws.{choice-either}
 use Rattle.wordaddress.specs.declared.Register.{Register}
 use Rattle.wordaddress.specs.declared.Register.the-variants.{Security, Configuration, Lock, Nowhere}
 use Rattle.wordaddress.specs.WordAddress.{registerOf, isLock, takeNamed, takeWord}
@@ -56,17 +57,11 @@ module _ (c : Control) (load : Load) (f : Fits c) (empty : within 0 load ≡ tru
       (standby c load f empty)
   call-good Nobody = standby _ load (dropped c f) empty
 
-  picked : Good (inPhase Standby (choosing true c)) load
-  picked = (choosing-fits (inPhase Standby c) (in-phase-fits c f Standby refl refl) true refl, empty)
-
-  chosen-good : (call : Call) → Good (takeChosen call c .control) load
-  chosen-good ReadArray = picked
-  chosen-good (WriteArray a16) = picked
-  chosen-good ReadRegister = standby c load f empty
-  chosen-good WriteRegister = standby c load f empty
-  chosen-good HostF8 = standby c load f empty
-  chosen-good HostF9 = standby c load f empty
-  chosen-good Nobody = standby c load f empty
+  chosen-good : (byte : ℕ) → Good (takeChoice c byte .control) load
+  chosen-good byte =
+      choice-either c byte (λ (x : Answered). Good (x .control) load)
+      (choosing-fits (inPhase Standby c) (in-phase-fits c f Standby refl refl) true refl, empty)
+      (standby c load f empty)
 
   named-good : (register : Register) (first byte : ℕ) → Good (takeNamed register first c byte .control) load
   named-good Security first byte =
@@ -116,11 +111,11 @@ module _ (c : Control) (load : Load) (f : Fits c) (paged : within (page c) load 
 
 -- a byte sent
 pub take-good : (phase : Phase) (c : Control) (load : Load) (byte : ℕ) → c .phase ≡ phase → Good c load → Good (takeIn phase c byte .control) (loadedIn phase load c byte)
-unfolding takeAddress takeChoice
+unfolding takeAddress
 take-good Standby c load byte is good = good
 take-good Busy c load byte is good = good
 take-good AwaitsAddress c load byte is good = call-good c load (good .0) (rw is at (good .1)) (callOf (geometryOf (c .part)) (c .strap) byte)
-take-good AwaitsChoice c load byte is good = chosen-good c load (good .0) (rw is at (good .1)) (callOf (geometryOf (c .part)) (c .strap) byte)
+take-good AwaitsChoice c load byte is good = chosen-good c load (good .0) (rw is at (good .1)) byte
 take-good (AwaitsWord word) c load byte is good = word-good c load (good .0) (rw is at (good .1)) word byte
 take-good (TakesData kind) c load byte is good = data-good c load (good .0) (rw is at (good .1)) kind byte
 take-good (SendsByte source) c load byte is good = good

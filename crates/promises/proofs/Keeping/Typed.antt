@@ -16,7 +16,7 @@ use denote.Builtin.{bool, u8}
 use denote.Laws.{Is}
 use Rattle.base.specs.Every.{FitsByte, AllBytes}
 use Rattle.base.proofs.Every.{every-of, each-every, every-each}
-use Rattle.base.proofs.Fold.{and-left, and-right}
+use Rattle.base.proofs.logic.Laws.{and-left, and-right}
 use Rattle.parts.specs.Part.{isPart, geometryOf}
 use Rattle.parts.proofs.part.Laws.{sound-of}
 use Rattle.load.specs.declared.Load.{Load}

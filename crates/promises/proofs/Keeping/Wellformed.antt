@@ -1,17 +1,15 @@
 -- A chip that is well formed stays so under every event, and a fresh one is well formed.
 use Prim.Native.Nat.{ℕ}
-use mathlib.Core.Bool.{true, cond}
+use mathlib.Core.Bool.{true}
 use mathlib.Core.List.{List}
 use mathlib.Core.Path.{_≡_, refl}
 use borrow.Author.Tests.{lt-ltb}
-use Rattle.base.proofs.logic.Laws.{either}
-use Rattle.base.proofs.Fold.{and-left, and-right, and-both}
+use Rattle.base.proofs.logic.Laws.{and-left, and-right, and-both, either-if, either}
 use Rattle.parts.proofs.part.Laws.{sound-of}
-use Rattle.control.specs.declared.phase.Phase.{Phase}
-use Rattle.control.specs.declared.phase.Phase.the-variants.{Standby, Busy, AwaitsAddress, AwaitsChoice, AwaitsWord, TakesData, SendsByte}
+use Rattle.control.specs.declared.phase.Phase.the-variants.{Standby, AwaitsAddress}
 use Rattle.control.specs.declared.phase.Shown.the-variants.{ShowsSecurity}
 use Rattle.control.specs.Phase.{isBusy}
-use Rattle.control.specs.Control.{inPhase}
+use Rattle.control.proofs.phase.Laws.{busy-is}
 use Rattle.taking.specs.Taking.{take, loaded}
 use Rattle.sending.specs.Sending.{read}
 use Rattle.cycle.specs.Stop.{stop}
@@ -39,19 +37,6 @@ formed-of : (c : Chip) → Good (c .control) (c .load) → wellFormed c ≡ true
 unfolding wellFormed
 formed-of c good = and-both _ _ (together (c .control) (good .0)) (good .1)
 
--- a busy chip holds no load, so it may go to standby
-abbrev over : Chip → Chip
-over c = record { control = inPhase Standby (c .control); load = c .load }
-
-over-good : (phase : Phase) (c : Chip) → c .control .phase ≡ phase → Good (c .control) (c .load) → Good (cond (isBusy phase) (over c) c .control) (cond (isBusy phase) (over c) c .load)
-over-good Standby c is good = good
-over-good Busy c is good = standby (c .control) (c .load) (good .0) (rw is at (good .1))
-over-good AwaitsAddress c is good = good
-over-good AwaitsChoice c is good = good
-over-good (AwaitsWord word) c is good = good
-over-good (TakesData kind) c is good = good
-over-good (SendsByte source) c is good = good
-
 module _ (c : Chip) (array security : List ℕ) (good : Good (c .control) (c .load)) where
   start-good : Good (chip.start c .control) (chip.start c .load)
   start-good =
@@ -69,6 +54,13 @@ module _ (c : Chip) (array security : List ℕ) (good : Good (c .control) (c .lo
       let counted = security-fits _ (array-fits _ (dropped (c .control) (good .0)) 0 (array-some (sound-of (c .control .part)))) 0 (sound-of (c .control .part) .security-some) in
       emptied-good _ (c .load) (in-phase-fits _ (showing-fits _ counted ShowsSecurity) Standby refl refl)
 
+  -- a busy chip holds no load, so it may go to standby
+  over-good : Good (chip.cycleOver c .control) (chip.cycleOver c .load)
+  over-good =
+      either-if (λ (x : Chip). Good (x .control) (x .load)) (isBusy (c .control .phase)) _ c
+      (λ busy. standby (c .control) (c .load) (good .0) (rw (busy-is (c .control .phase) busy) at (good .1)))
+      good
+
   step-good : (event : Event) → Good (chip.step c array security event .0 .chip .control) (chip.step c array security event .0 .chip .load)
   unfolding chip.step loaded take read
   step-good Start = start-good
@@ -76,7 +68,7 @@ module _ (c : Chip) (array security : List ℕ) (good : Good (c .control) (c .lo
   step-good (Sent byte) = take-good (c .control .phase) (c .control) (c .load) byte refl good
   step-good (Read nack) = read-good (c .control .phase) (c .control) (c .load) array security nack refl good
   step-good (Wp level) = (wp-fits (c .control) (good .0) level, good .1)
-  step-good CycleOver = over-good (c .control .phase) c refl good
+  step-good CycleOver = over-good
   step-good PowerUp = power-up-good
 
 pub kept : (c : Chip) (array security : List ℕ) (event : Event) → wellFormed c ≡ true → wellFormed (chip.step c array security event .0 .chip) ≡ true

@@ -9,7 +9,7 @@ use mathlib.Core.Path.{_≡_, refl, sym}
 use lib.Dec.{leb}
 use lib.ListN.{length}
 use borrow.Author.Tests.{le-leb, lt-leb, leb-true, leb-false}
-use Rattle.base.proofs.Fold.{and-left}
+use Rattle.base.proofs.logic.Laws.{and-left}
 use Rattle.transcript.specs.Frame.{isFrameAt, eventAt, frameAt, meaning}
 use Rattle.transcript.specs.declared.frame.Frame.{Frame}
 use Rattle.transcript.specs.declared.frame.Frame.the-variants.{Event, Malformed, End}

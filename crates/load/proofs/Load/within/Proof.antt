@@ -3,7 +3,8 @@ use Rattle.load.specs.declared.Load.{Load}
 use Rattle.load.specs.Load.{fitsAt, within}
 use Rattle.base.specs.Fold.{allBelow}
 use Rattle.base.specs.Least.{least}
-use Rattle.base.proofs.Fold.{all-each, or-right, up-more, up-end}
+use Rattle.base.proofs.logic.Laws.{or-right}
+use Rattle.base.proofs.Fold.{all-each, up-more, up-end}
 use Rattle.base.proofs.number.Laws.{least-first, least-second, least-most}
 use borrow.Author.Needs.{needs}
 use borrow.Author.Tests.{lt-ltb, le-ltb}

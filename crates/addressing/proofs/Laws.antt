@@ -1,0 +1,26 @@
+-- What the byte after F8h comes to, whatever byte it is: the chip is chosen and acknowledges, or it goes to standby in silence.
+use Prim.Native.Nat.{ℕ}
+use mathlib.Core.Bool.{true}
+use Rattle.parts.specs.Part.{geometryOf}
+use Rattle.control.specs.declared.Control.{Control}
+use Rattle.control.specs.declared.Answered.{Answered}
+use Rattle.control.specs.declared.phase.Phase.the-variants.{Standby}
+use Rattle.control.specs.Control.{choosing}
+use Rattle.control.specs.Said.{acked, silent}
+use Rattle.addressing.specs.declared.Call.{Call}
+use Rattle.addressing.specs.declared.Call.the-variants.{ReadArray, WriteArray, ReadRegister, WriteRegister, HostF8, HostF9, Nobody}
+use Rattle.addressing.specs.Address.{callOf, takeChosen, takeChoice}
+
+module _ (c : Control) (byte : ℕ) (P : Answered → Type 0) (picked : P (acked Standby (choosing true c))) (passed : P (silent Standby c)) where
+  by-call : (call : Call) → P (takeChosen call c)
+  by-call ReadArray = picked
+  by-call (WriteArray a16) = picked
+  by-call ReadRegister = passed
+  by-call WriteRegister = passed
+  by-call HostF8 = passed
+  by-call HostF9 = passed
+  by-call Nobody = passed
+
+  pub choice-either : P (takeChoice c byte)
+  unfolding takeChoice
+  choice-either = by-call (callOf (geometryOf (c .part)) (c .strap) byte)

@@ -42,8 +42,8 @@ use denote.Exit.{yes}
 use Rattle.bus.specs.declared.Bus.{Bus}
 use Rattle.bus.proofs.Bus as T
 use Rattle.bus.proofs.Bus.Laws as T′
-use Rattle.inplace.proofs.Lends.{under, local, Slice, HeldSlice, lend-local, local-back, lend-slice, slice-back, lend-shared, shared-back, as-long, asks, answers}
-use Rattle.inplace.proofs.Locals.{held, vacant, blocks, freed}
+use Rattle.walks.proofs.Lends.{under, local, Slice, HeldSlice, lend-local, local-back, lend-slice, slice-back, lend-shared, shared-back, as-long, asks, answers}
+use Rattle.walks.proofs.Locals.{held, vacant, blocks, freed}
 use Rattle.conversation.specs.declared.Heard.{Heard}
 use Rattle.conversation.proofs.Heard as O
 use Rattle.conversation.proofs.Heard.Laws as O′

@@ -37,8 +37,8 @@ use denote.Exit.{yes}
 use Rattle.bus.specs.declared.Bus.{Bus}
 use Rattle.bus.proofs.Bus as T
 use Rattle.bus.proofs.Bus.Laws as T′
-use Rattle.inplace.proofs.Lends.{under, local, Slice, HeldSlice, Last, lend-local, local-back, lend-slice, slice-back, as-long, asks, answers}
-use Rattle.inplace.proofs.Locals.{freed}
+use Rattle.walks.proofs.Lends.{under, local, Slice, HeldSlice, Last, lend-local, local-back, lend-slice, slice-back, as-long, asks, answers}
+use Rattle.walks.proofs.Locals.{freed}
 use Rattle.conversation.specs.declared.Heard.{Heard}
 use Rattle.conversation.specs.Talk.{Left, converse}
 use Rattle.conversation.specs.Tape.{textOn}

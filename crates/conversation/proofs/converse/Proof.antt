@@ -47,8 +47,8 @@ use Rattle.bus.specs.declared.Bus.{Bus}
 use Rattle.bus.specs.Step.{step}
 use Rattle.bus.proofs.Bus as T
 use Rattle.inplace.specs.InPlace.{handedBack}
-use Rattle.inplace.proofs.Lends.{under, Ref, Slice, HeldRef, HeldSlice, KeptSlice, Last, lend-ref, ref-back, lend-slice, slice-back, as-long, asks, answers}
-use Rattle.inplace.proofs.Locals.{held, vacant, blocks, freed}
+use Rattle.walks.proofs.Lends.{under, Ref, Slice, HeldRef, HeldSlice, KeptSlice, Last, lend-ref, ref-back, lend-slice, slice-back, as-long, asks, answers}
+use Rattle.walks.proofs.Locals.{held, vacant, blocks, freed}
 use Rattle.inplace.proofs.step_in_place as step-in-place
 use Rattle.inplace.proofs.step_in_place.Symbol as step-in-place-def
 use Rattle.inplace.proofs.step_in_place.Symbol.{name as #inplace·step-in-place}

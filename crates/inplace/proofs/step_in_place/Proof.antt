@@ -55,7 +55,7 @@ use Rattle.bus.proofs.Bus.step as by-value
 use Rattle.bus.proofs.Bus.step.Symbol as by-value-def
 use Rattle.bus.proofs.Bus.step.Symbol.{name as #bus·Bus·step}
 use Rattle.bus.proofs.Bus.step.Met as by-value-thm
-use Rattle.inplace.proofs.Locals.{held, blocks, freed}
+use Rattle.walks.proofs.Locals.{held, blocks, freed}
 use Rattle.inplace.proofs.step_in_place.Key.{name as #inplace·step-in-place}
 use Rattle.inplace.proofs.step_in_place as step-in-place
 use Rattle.inplace.proofs.step_in_place.Statement as stated

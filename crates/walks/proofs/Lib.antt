@@ -1,0 +1,2 @@
+pub mod Lends
+pub mod Locals

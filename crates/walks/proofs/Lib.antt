@@ -1,2 +1,3 @@
 pub mod Lends
+pub mod Hand
 pub mod Locals

@@ -118,17 +118,17 @@ module _ {M : Type 1} (𝓤 : URA M) (H : Heap 𝓤) (A : Atoms 𝓤) (W : Given
             assigns ! (addr ! (from ! (fld ! refl (hop ! (look-in ! 16 (sub ! 0 refl (whole !))) (stop !))))) (from ! (stop !)) (init ! 32 refl (tt, tt)) $
             assigns ! (agg ! (and-then ! (load ! (from ! (stop !)) (look ! 32 refl)) (and-then ! (load ! (from ! (fld ! refl (stop !))) (look-in ! 16 (sub ! 1 refl (whole !)))) (no-more !)))) (from ! (stop !)) (init ! 34 refl (tt, (tt, (record { fits = is-said .0 .1 .0 }, tt)))) $
             move ! (18 ∷ []) $ group ! 5 $
-            use1 W (later (raw (𝓣 .C #conversation·converse (vptr l₇ 0 ∷ sliced the-array ∷ sliced the-security ∷ sliced the-tape ∷ vint w64 filled ∷ sliced the-said ∷ []) (λ w. mean 𝓤 H A (Talked the-array the-security the-tape filled the-said bus l₇ w))))) (talks 𝓤 H A W mem run (𝓣 .C) fm the-array the-security the-tape filled the-said is-filled known-talk bus is-bus l₇) $ await ! tt $
+            use1 W (later (raw (𝓣 .C #conversation·converse (vptr l₇ 0 ∷ sliced the-array ∷ sliced the-security ∷ sliced the-tape ∷ vint w64 filled ∷ sliced the-said ∷ []) (λ w. mean 𝓤 H A (Talked the-tape filled the-said the-array the-security bus l₇ w))))) (talks 𝓤 H A W mem run (𝓣 .C) fm the-tape filled the-said is-filled the-array the-security known-talk bus is-bus l₇) $ await ! tt $
             -- [the call; the locals, _k at 1 + 2 k as far as _6, and at 2 k from _8 on]
-            calls ! fm (Talked the-array the-security the-tape filled the-said bus l₇) (and-then ! (load ! (from ! (stop !)) (look ! 18 refl)) (and-then ! (load ! (from ! (stop !)) (look ! 22 refl)) (and-then ! (load ! (from ! (stop !)) (look ! 26 refl)) (and-then ! (load ! (from ! (stop !)) (look ! 9 refl)) (and-then ! (load ! (from ! (stop !)) (look ! 11 refl)) (and-then ! (load ! (from ! (stop !)) (look ! 30 refl)) (no-more !))))))) (λ u. await ! tt $ pick ! (λ x. learn ! (λ talked.
+            calls ! fm (Talked the-tape filled the-said the-array the-security bus l₇) (and-then ! (load ! (from ! (stop !)) (look ! 18 refl)) (and-then ! (load ! (from ! (stop !)) (look ! 22 refl)) (and-then ! (load ! (from ! (stop !)) (look ! 26 refl)) (and-then ! (load ! (from ! (stop !)) (look ! 9 refl)) (and-then ! (load ! (from ! (stop !)) (look ! 11 refl)) (and-then ! (load ! (from ! (stop !)) (look ! 30 refl)) (no-more !))))))) (λ u. await ! tt $ pick ! (λ x. learn ! (λ talked.
             land ! (from ! (stop !)) (init ! 16 refl (LL.lawful O.the-type O′.the-laws 𝓤 H A W .typed (x .0) _ (talked .0) .0)) $ split3 ! $ move ! (2 ∷ []) $ split3 ! $
             -- [the security store; the tape; the buffer; the bus's cell; the array store; the locals, _k at 5 + 2 k as far as _6, and at 4 + 2 k from _8 on]
             assigns ! (addr ! (from ! (fld ! refl (hop ! (look-in ! 17 (sub ! 0 refl (whole !))) (stop !))))) (from ! (stop !)) (init ! 36 refl (tt, tt)) $
             assigns ! (agg ! (and-then ! (load ! (from ! (stop !)) (look ! 36 refl)) (and-then ! (load ! (from ! (fld ! refl (stop !))) (look-in ! 17 (sub ! 1 refl (whole !)))) (no-more !)))) (from ! (stop !)) (init ! 38 refl (tt, (tt, (record { fits = is-said .0 .1 .0 }, tt)))) $
             move ! (1 ∷ 2 ∷ []) $
-            use2 W (later (raw (𝓣 .C #conversation·pending·finish (u ∷ sliced the-tape ∷ vint w64 filled ∷ sliced the-said ∷ []) (λ w. mean 𝓤 H A (Finished the-array the-security the-tape filled the-said (x .0) (x .4) w))))) (finishes 𝓤 H A W mem run (𝓣 .C) fm the-array the-security the-tape filled the-said is-filled known-finish is-said (x .0) u (x .4) (talked .0)) $ await ! tt $
+            use2 W (later (raw (𝓣 .C #conversation·pending·finish (u ∷ sliced the-tape ∷ vint w64 filled ∷ sliced the-said ∷ []) (λ w. mean 𝓤 H A (Finished the-tape filled the-said (x .0) (x .4) w))))) (finishes 𝓤 H A W mem run (𝓣 .C) fm the-tape filled the-said is-filled known-finish is-said (x .0) u (x .4) (talked .0)) $ await ! tt $
             -- [the call; the security store; the bus's cell; the array store; the locals, _k at 4 + 2 k as far as _6, and at 3 + 2 k from _8 on]
-            calls ! fm (Finished the-array the-security the-tape filled the-said (x .0) (x .4)) (and-then ! (load ! (from ! (stop !)) (look ! 19 refl)) (and-then ! (load ! (from ! (stop !)) (look ! 12 refl)) (and-then ! (load ! (from ! (stop !)) (look ! 14 refl)) (and-then ! (load ! (from ! (stop !)) (look ! 37 refl)) (no-more !))))) (λ w. await ! tt $ pick ! (λ y. learn ! (λ ended.
+            calls ! fm (Finished the-tape filled the-said (x .0) (x .4)) (and-then ! (load ! (from ! (stop !)) (look ! 19 refl)) (and-then ! (load ! (from ! (stop !)) (look ! 12 refl)) (and-then ! (load ! (from ! (stop !)) (look ! 14 refl)) (and-then ! (load ! (from ! (stop !)) (look ! 37 refl)) (no-more !))))) (λ w. await ! tt $ pick ! (λ y. learn ! (λ ended.
             land ! (from ! (stop !)) (init ! 4 refl (LL.lawful O.the-type O′.the-laws 𝓤 H A W .typed (y .0) _ (ended .0) .0)) $ returns ! (look ! 4 refl) $
             keep ! (4 ∷ 5 ∷ 6 ∷ 7 ∷ 8 ∷ 9 ∷ 10 ∷ 11 ∷ 12 ∷ 13 ∷ 14 ∷ 15 ∷ 16 ∷ 17 ∷ 2 ∷ 18 ∷ 19 ∷ 20 ∷ 21 ∷ 22 ∷ 23 ∷ 24 ∷ 25 ∷ 26 ∷ 27 ∷ 28 ∷ 29 ∷ 30 ∷ 31 ∷ 32 ∷ 33 ∷ 34 ∷ 35 ∷ 36 ∷ 37 ∷ 38 ∷ 3 ∷ 1 ∷ 0 ∷ []) $
             freed W ((O′.mir, l₀, w) ∷ (T′.mir, l₁, mach-bus bus) ∷ (_, l₂, sliced the-array) ∷ (_, l₃, sliced the-security) ∷ (_, l₄, sliced the-tape) ∷ (_, l₅, vint w64 filled) ∷ (_, l₆, sliced the-said) ∷ (T′.mir, l₇, mach-bus (x .1)) ∷ (O′.mir, l₈, u) ∷ (_, l₉, vptr l₇ 0) ∷ (_, l₁₀, _) ∷ (_, l₁₁, sliced the-array) ∷ (_, l₁₂, _) ∷ (_, l₁₃, sliced the-security) ∷ (_, l₁₄, _) ∷ (_, l₁₅, sliced the-said) ∷ (_, l₁₆, _) ∷ (_, l₁₇, sliced the-said) ∷ []) []

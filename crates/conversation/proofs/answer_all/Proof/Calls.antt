@@ -56,13 +56,13 @@ abbrev pub Gone : Passed (List ℕ) → List ℕ → List ℕ → Fml
 Gone p ys last = fsep (Last u8 ys (p .x .name) last) (flft p.κ p.q)
 
 -- what the calls hand back, with a result that the machine has as w
-module _ {M : Type 1} {𝓤 : URA M} (the-array the-security the-tape : Passed (List ℕ)) (filled : ℕ) (the-said : Passed (List ℕ)) where
-  abbrev pub Talking : Bus → ℕ → Val → Left → Item 𝓤
-  Talking bus l w left =
+module _ {M : Type 1} {𝓤 : URA M} (the-tape : Passed (List ℕ)) (filled : ℕ) (the-said : Passed (List ℕ)) where
+  abbrev pub Talking : Passed (List ℕ) → Passed (List ℕ) → Bus → ℕ → Val → Left → Item 𝓤
+  Talking the-array the-security bus l w left =
       given (Is O.the-row (left .0) (w ∷ []) × (left ≡ converse (textOn (the-tape.x .now) filled) bus (the-array.x .now) (the-security.x .now) (the-said.x .now))) (‵ (Cell l (left .1)) ⊛ ‵ (Gone the-array (the-array.x .now) (left .2)) ⊛ ‵ (Gone the-security (the-security.x .now) (left .3)) ⊛ ‵ (Shown the-tape) ⊛ ‵ (Bytes the-said (left .4)))
 
-  abbrev pub Talked : Bus → ℕ → Val → Item 𝓤
-  Talked bus l w = later (some (Talking bus l w))
+  abbrev pub Talked : Passed (List ℕ) → Passed (List ℕ) → Bus → ℕ → Val → Item 𝓤
+  Talked the-array the-security bus l w = later (some (Talking the-array the-security bus l w))
 
   abbrev pub Finishing : Heard → List ℕ → Val → Heard × List ℕ → Item 𝓤
   Finishing it said w (r, last) = given (Is O.the-row r (w ∷ []) × ((r, last) ≡ finished (textOn (the-tape.x .now) filled) it said) × (length said ≡ length (the-said.x .now))) (‵ (flft the-tape.κ the-tape.q) ⊛ ‵ (Gone the-said said last))
@@ -77,14 +77,13 @@ module _ {M : Type 1} (𝓤 : URA M) (H : Heap 𝓤) (A : Atoms 𝓤) (W : Given
   abbrev pub Finish : Contract 𝓤
   Finish = tripleOf 𝓤 H A finish.signature (finish.spec 𝓤 H A mem run)
 
-  module _ (C : Calls 𝓤 H) (fm : FmC 𝓤 H (W .laws) C) (the-array the-security the-tape : Passed (List ℕ)) (filled : ℕ) (the-said : Passed (List ℕ)) (is-filled : Is usize filled (vint w64 filled ∷ [])) where
+  module _ (C : Calls 𝓤 H) (fm : FmC 𝓤 H (W .laws) C) (the-tape : Passed (List ℕ)) (filled : ℕ) (the-said : Passed (List ℕ)) (is-filled : Is usize filled (vint w64 filled ∷ [])) where
     -- the bus stands in the block l
-    pub talks : Triple 𝓤 (C #conversation·converse) Talk → (bus : Bus) → Is T.the-row bus (mach-bus bus ∷ []) → (l : ℕ)
-        → ent 𝓤 (⋆ 𝓤 H A (‵ (Cell l bus) ∷ ‵ (Bytes the-array (the-array.x .now)) ∷ ‵ (Bytes the-security (the-security.x .now)) ∷ ‵ (Shown the-tape) ∷ ‵ (Bytes the-said (the-said.x .now)) ∷ [])) (H .⇛ (C #conversation·converse (vptr l 0 ∷ sliced the-array ∷ sliced the-security ∷ sliced the-tape ∷ vint w64 filled ∷ sliced the-said ∷ []) (λ w. mean 𝓤 H A (Talked the-array the-security the-tape filled the-said bus l w))))
-    talks known bus is-bus l =
+    pub talks : (the-array the-security : Passed (List ℕ)) → Triple 𝓤 (C #conversation·converse) Talk → (bus : Bus) → Is T.the-row bus (mach-bus bus ∷ []) → (l : ℕ)
+        → ent 𝓤 (⋆ 𝓤 H A (‵ (Cell l bus) ∷ ‵ (Bytes the-array (the-array.x .now)) ∷ ‵ (Bytes the-security (the-security.x .now)) ∷ ‵ (Shown the-tape) ∷ ‵ (Bytes the-said (the-said.x .now)) ∷ [])) (H .⇛ (C #conversation·converse (vptr l 0 ∷ sliced the-array ∷ sliced the-security ∷ sliced the-tape ∷ vint w64 filled ∷ sliced the-said ∷ []) (λ w. mean 𝓤 H A (Talked the-tape filled the-said the-array the-security bus l w))))
+    talks the-array the-security known bus is-bus l =
         qed W (‵ (Cell l bus) ∷ ‵ (Bytes the-array (the-array.x .now)) ∷ ‵ (Bytes the-security (the-security.x .now)) ∷ ‵ (Shown the-tape) ∷ ‵ (Bytes the-said (the-said.x .now)) ∷ []) ∵ updating ! $ lend-local ! tt T.the-row (LL.makes T.the-type T′.the-plain 𝓤 H A) refl l bus (mach-bus bus) is-bus (λ ν₀ δ₀.
-        move ! (6 ∷ []) $ lend-slice ! tt u8 the-said.x (sliced the-said ∷ []) (λ ν₄ δ₄. move ! (6 ∷ []) $ fsplit ! $ move ! (8 ∷ []) $ fsplit ! $ move ! (10 ∷ []) $ fsplit ! $
-        seen-twice ! the-tape $
+        move ! (6 ∷ []) $ lend-slice ! tt u8 the-said.x (sliced the-said ∷ []) (λ ν₄ δ₄. move ! (6 ∷ []) $ fsplit ! $ move ! (8 ∷ []) $ fsplit ! $ move ! (10 ∷ []) $ fsplit ! $ seen-twice ! the-tape $
         -- [the tape, twice, and its token; the security store and its token; the array store and its token; the token, what is lent and what is kept: of the buffer, of the bus]
         at-once ! $ nothing ! $ nothing ! $ nothing ! $ owned ! usize (Is usize) (uint-makes 𝓤 H A W w64) filled _ is-filled $ move ! (14 ∷ 10 ∷ 8 ∷ 6 ∷ 11 ∷ 1 ∷ []) $ group ! 6 $ move ! (10 ∷ 7 ∷ 6 ∷ 4 ∷ 1 ∷ 8 ∷ 2 ∷ []) $ group ! 7 $ move ! (1 ∷ 0 ∷ []) $ join ! $ join ! $
         use1 W (raw (Talk .pre (to-talk ν₀ ν₄ δ₀ δ₄))) (id⊢ 𝓤 _) $ asks ! fm Talk known (to-talk ν₀ ν₄ δ₀ δ₄) (λ w. updating ! $ answers ! tt talk.ended (talk.clauses 𝓤 H A mem run) (to-talk ν₀ ν₄ δ₀ δ₄) (λ it ws.
@@ -95,7 +94,7 @@ module _ {M : Type 1} (𝓤 : URA M) (H : Heap 𝓤) (A : Atoms 𝓤) (W : Given
         move ! (1 ∷ []) $ fsplit ! $ move ! (0 ∷ 7 ∷ []) $ fjoin ! $ move ! (1 ∷ []) $ fsplit ! $ move ! (0 ∷ 6 ∷ []) $ fjoin ! $ move ! (1 ∷ []) $ fsplit ! $ drop ! $ fsplit ! $ drop ! $ fsplit ! $
         move ! (5 ∷ 9 ∷ 0 ∷ []) $ slice-back ! tt u8 the-said.x (sliced the-said ∷ []) (ws .1 .1 .1 .1 .1 .0) $ move ! (7 ∷ 6 ∷ []) $ fjoin ! $
         -- [the tape; the buffer; nothing; the security store; the array store; the bus's cell; nothing]
-        at-once ! $ show ! (λ (x : Left). mean 𝓤 H A (Talking the-array the-security the-tape filled the-said bus l w x)) (it, ws .0, ws .1 .0, ws .1 .1 .0, ws .1 .1 .1 .1 .1 .0) $ check ! (is, talked) $ keep ! (5 ∷ 4 ∷ 3 ∷ 0 ∷ 1 ∷ []) $ done !)))))))
+        at-once ! $ show ! (λ (x : Left). mean 𝓤 H A (Talking the-tape filled the-said the-array the-security bus l w x)) (it, ws .0, ws .1 .0, ws .1 .1 .0, ws .1 .1 .1 .1 .1 .0) $ check ! (is, talked) $ keep ! (5 ∷ 4 ∷ 3 ∷ 0 ∷ 1 ∷ []) $ done !)))))))
       where
         to-talk : ℕ → ℕ → GName → GName → Talk .Ghost
         to-talk ν₀ ν₄ δ₀ δ₄ =
@@ -103,7 +102,7 @@ module _ {M : Type 1} (𝓤 : URA M) (H : Heap 𝓤) (A : Atoms 𝓤) (W : Given
 
     -- the machine has what was heard as u
     pub finishes : Triple 𝓤 (C #conversation·pending·finish) Finish → Is (MutSlice erased the-said.κ u8) the-said.x (sliced the-said ∷ []) → (it : Heard) (u : Val) (said : List ℕ) → Is O.the-row it (u ∷ [])
-        → ent 𝓤 (⋆ 𝓤 H A (‵ (Shown the-tape) ∷ ‵ (Bytes the-said said) ∷ [])) (H .⇛ (C #conversation·pending·finish (u ∷ sliced the-tape ∷ vint w64 filled ∷ sliced the-said ∷ []) (λ w. mean 𝓤 H A (Finished the-array the-security the-tape filled the-said it said w))))
+        → ent 𝓤 (⋆ 𝓤 H A (‵ (Shown the-tape) ∷ ‵ (Bytes the-said said) ∷ [])) (H .⇛ (C #conversation·pending·finish (u ∷ sliced the-tape ∷ vint w64 filled ∷ sliced the-said ∷ []) (λ w. mean 𝓤 H A (Finished the-tape filled the-said it said w))))
     finishes known is-said it u said is-heard =
         qed W (‵ (Shown the-tape) ∷ ‵ (Bytes the-said said) ∷ []) ∵ updating ! $ fsplit ! $ move ! (2 ∷ []) $ fsplit ! $ as-long ! u8 the-said.x said is-said (λ same.
         -- [the buffer and its token; the tape and its token]
@@ -113,7 +112,7 @@ module _ {M : Type 1} (𝓤 : URA M) (H : Heap 𝓤) (A : Atoms 𝓤) (W : Given
         move ! (3 ∷ []) $ heard ! ((r, ws .1 .1 .1 .0) ≡ finished (textOn (the-tape.x .now) filled) it said) (λ ended. move ! (1 ∷ []) $ facts ! O.the-row (Is O.the-row) (shows 𝓤 H A O.the-row) r (w ∷ []) (λ is.
         -- [the tokens; the last values]
         use1 W (‵ (flft the-tape.κ the-tape.q) ⊛ ‵ (flft the-said.κ the-said.q) ⊛ ‵ ftrue) (id⊢ 𝓤 _) $ split3 ! $ move ! (3 ∷ []) $ fsplit ! $ drop ! $ fsplit ! $ drop ! $ fsplit ! $ drop ! $ fsplit ! $ move ! (0 ∷ 3 ∷ []) $ fjoin ! $
-        at-once ! $ show ! (λ (x : Heard × List ℕ). mean 𝓤 H A (Finishing the-array the-security the-tape filled the-said it said w x)) (r, ws .1 .1 .1 .0) $ check ! (is, ended, same) $ keep ! (2 ∷ 0 ∷ []) $ done !)))))
+        at-once ! $ show ! (λ (x : Heard × List ℕ). mean 𝓤 H A (Finishing the-tape filled the-said it said w x)) (r, ws .1 .1 .1 .0) $ check ! (is, ended, same) $ keep ! (2 ∷ 0 ∷ []) $ done !)))))
       where
         to-finish : Finish .Ghost
         to-finish = (((the-tape.κ, (the-said.κ, tt)), (the-tape.q, (the-said.q, tt)), tt, (it, (the-tape.x, (filled, (at-last the-said.x said, tt)))), (u ∷ [], (sliced the-tape ∷ [], (vint w64 filled ∷ [], (sliced the-said ∷ [], tt))))), tt)

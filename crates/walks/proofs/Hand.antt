@@ -1,5 +1,5 @@
 -- What a walk was passed, and what it has in hand of it between calls; `Lends.antt` lends that for a call.
---     Passed             a reference as it was passed: its lifetime κ, the share q of the token of κ, and x, its place, its name and its value
+--     Passed             a reference as it was passed: its lifetime κ, the share q of κ's token, and x, its place, name and value
 --     pointed, sliced    a reference and a slice as they were passed, as the machine has them
 --     Borrow, Bytes      a `&mut T` and a `&mut [u8]` in hand, at the value that it has by now
 --     Seen, Shown        what a `&[u8]` owns, and that with its token

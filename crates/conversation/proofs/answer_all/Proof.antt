@@ -1,4 +1,11 @@
--- TOP
+-- `answer_all` keeps the bus in a local, lends it to `converse`, and finishes what that has heard. So it leaves what `finished`
+-- leaves of what `converse` left, which is `answerAll` (`put-together`). What the two calls do is in `Proof/Calls.antt`; how a walk
+-- counts places is said in `walks` Locals.
+-- The locals of the compiled code, whose blocks are l₀ to l₁₇:
+--     _0 what is returned  _1 bus  _2 array  _3 security  _4 tape  _5 filled  _6 said  _7 held  _8 heard
+--     _9                   held, lent to `converse`
+--     _10 to _15           array, security and said, lent to `converse`, each as the pointer to its bytes and the slice of that
+--     _16, _17             said, lent to `finish`, as pointer and slice
 mod Calls
 use mathlib.Core.Path.{_≡_, _∙_, refl, ap}
 use Prim.Native.Nat.{ℕ}
@@ -86,7 +93,8 @@ module _ {M : Type 1} (𝓤 : URA M) (H : Heap 𝓤) (A : Atoms 𝓤) (W : Given
           qed W (((‵ (flft the-array.κ the-array.q) ⊛ ‵ (flft the-security.κ the-security.q) ⊛ ‵ (flft the-tape.κ the-tape.q) ⊛ ‵ (flft the-said.κ the-said.q) ⊛ ‵ ftrue)
           ⊛ ‵ (T.the-row .own bus (mach-bus bus ∷ [])) ⊛ ‵ (Slice u8 the-array.κ the-array.x (sliced the-array ∷ [])) ⊛ ‵ (Slice u8 the-security.κ the-security.x (sliced the-security ∷ [])) ⊛ ‵ (Seen the-tape) ⊛ ‵ (usize .own filled (vint w64 filled ∷ [])) ⊛ ‵ (Slice u8 the-said.κ the-said.x (sliced the-said ∷ [])) ⊛ ‵ ftrue) ∷ ‵ ftrue ∷ []) ∵
           split ! $ split3 ! $ move ! (2 ∷ []) $ split3 ! $ move ! (5 ∷ []) $ split3 ! $ move ! (2 ∷ []) $ split3 ! $ move ! (2 ∷ []) $ split3 ! $
-          -- [the number; the buffer; nothing; the security store; the tape; the bus; the array store; the tokens: of the tape and of the buffer, nothing, of the array store and of the security store; nothing]
+          -- [the number; the buffer; nothing; the security store; the tape; the bus; the array store; the tokens: of the tape and
+          -- of the buffer, nothing, of the array store and of the security store; nothing]
           move ! (1 ∷ 8 ∷ []) $ fjoin ! $ move ! (4 ∷ 7 ∷ []) $ fjoin ! $ move ! (4 ∷ 9 ∷ []) $ fjoin ! $ move ! (6 ∷ 8 ∷ []) $ fjoin ! $ keep ! (0 ∷ 1 ∷ 2 ∷ 3 ∷ []) $ done !
 
       exits : (left : Left) (r : Heard) (last : List ℕ) (w : Val) → left ≡ converse (textOn (the-tape.x .now) filled) bus (the-array.x .now) (the-security.x .now) (the-said.x .now) → (r, last) ≡ finished (textOn (the-tape.x .now) filled) (left .0) (left .4) → length (left .4) ≡ length (the-said.x .now) → Is O.the-row r (w ∷ [])
@@ -95,7 +103,8 @@ module _ {M : Type 1} (𝓤 : URA M) (H : Heap 𝓤) (A : Atoms 𝓤) (W : Given
           qed W (‵ (Gone the-array (the-array.x .now) (left .2)) ∷ ‵ (Gone the-security (the-security.x .now) (left .3)) ∷ (‵ (flft the-tape.κ the-tape.q) ⊛ ‵ (Gone the-said (left .4) last)) ∷ []) ∵
           fsplit ! $ fsplit ! $ move ! (1 ∷ []) $ feqL ! (λ same-array. move ! (2 ∷ []) $ fsplit ! $ fsplit ! $ move ! (1 ∷ []) $ feqL ! (λ same-security. move ! (4 ∷ []) $ split ! $ move ! (1 ∷ []) $ fsplit ! $ fsplit ! $ move ! (1 ∷ []) $ feqL ! (λ same-said.
           suffices ! _ (ends-at 𝓤 H A answer-all.ended stayed (answer-all.clauses 𝓤 H A mem run) W passed w r (tt, (left .2, (left .3, (tt, (tt, (last, tt)))))) (tt, (same-array, (same-security, (tt, (tt, (same-said ∙ same, tt))))))) $ says ! (put-together (textOn (the-tape.x .now) filled) bus (the-array.x .now) (the-security.x .now) (the-said.x .now) talked ended) $
-          -- [the last list of the buffer, and its token; the token of the tape; the last list and the token: of the security store, of the array store]
+          -- [the last list of the buffer, and its token; the token of the tape; the last list and the token: of the security and
+          -- of the array store]
           nothing ! $ nothing ! $ nothing ! $ nothing ! $ nothing ! $ move ! (11 ∷ 9 ∷ 7 ∷ 6 ∷ 0 ∷ []) $ group ! 5 $ frame ! $ move ! (0 ∷ 6 ∷ 5 ∷ 1 ∷ 2 ∷ 4 ∷ 3 ∷ []) $ group ! 7 $ frame ! $
           owned ! O.the-row (Is O.the-row) (LL.makes O.the-type O′.the-plain 𝓤 H A) r _ is $ done !)))
 
@@ -122,12 +131,13 @@ module _ {M : Type 1} (𝓤 : URA M) (H : Heap 𝓤) (A : Atoms 𝓤) (W : Given
             -- [the call; the locals, _k at 1 + 2 k as far as _6, and at 2 k from _8 on]
             calls ! fm (Talked the-tape filled the-said the-array the-security bus l₇) (and-then ! (load ! (from ! (stop !)) (look ! 18 refl)) (and-then ! (load ! (from ! (stop !)) (look ! 22 refl)) (and-then ! (load ! (from ! (stop !)) (look ! 26 refl)) (and-then ! (load ! (from ! (stop !)) (look ! 9 refl)) (and-then ! (load ! (from ! (stop !)) (look ! 11 refl)) (and-then ! (load ! (from ! (stop !)) (look ! 30 refl)) (no-more !))))))) (λ u. await ! tt $ pick ! (λ x. learn ! (λ talked.
             land ! (from ! (stop !)) (init ! 16 refl (LL.lawful O.the-type O′.the-laws 𝓤 H A W .typed (x .0) _ (talked .0) .0)) $ split3 ! $ move ! (2 ∷ []) $ split3 ! $
-            -- [the security store; the tape; the buffer; the bus's cell; the array store; the locals, _k at 5 + 2 k as far as _6, and at 4 + 2 k from _8 on]
+            -- [the security store; the tape; the buffer; the bus's cell; the array store; _k at 5 + 2 k as far as _6, at 4 + 2 k
+            -- from _8 on]
             assigns ! (addr ! (from ! (fld ! refl (hop ! (look-in ! 17 (sub ! 0 refl (whole !))) (stop !))))) (from ! (stop !)) (init ! 36 refl (tt, tt)) $
             assigns ! (agg ! (and-then ! (load ! (from ! (stop !)) (look ! 36 refl)) (and-then ! (load ! (from ! (fld ! refl (stop !))) (look-in ! 17 (sub ! 1 refl (whole !)))) (no-more !)))) (from ! (stop !)) (init ! 38 refl (tt, (tt, (record { fits = is-said .0 .1 .0 }, tt)))) $
             move ! (1 ∷ 2 ∷ []) $
             use2 W (later (raw (𝓣 .C #conversation·pending·finish (u ∷ sliced the-tape ∷ vint w64 filled ∷ sliced the-said ∷ []) (λ w. mean 𝓤 H A (Finished the-tape filled the-said (x .0) (x .4) w))))) (finishes 𝓤 H A W mem run (𝓣 .C) fm the-tape filled the-said is-filled known-finish is-said (x .0) u (x .4) (talked .0)) $ await ! tt $
-            -- [the call; the security store; the bus's cell; the array store; the locals, _k at 4 + 2 k as far as _6, and at 3 + 2 k from _8 on]
+            -- [the call; the security store; the bus's cell; the array store; _k at 4 + 2 k as far as _6, at 3 + 2 k from _8 on]
             calls ! fm (Finished the-tape filled the-said (x .0) (x .4)) (and-then ! (load ! (from ! (stop !)) (look ! 19 refl)) (and-then ! (load ! (from ! (stop !)) (look ! 12 refl)) (and-then ! (load ! (from ! (stop !)) (look ! 14 refl)) (and-then ! (load ! (from ! (stop !)) (look ! 37 refl)) (no-more !))))) (λ w. await ! tt $ pick ! (λ y. learn ! (λ ended.
             land ! (from ! (stop !)) (init ! 4 refl (LL.lawful O.the-type O′.the-laws 𝓤 H A W .typed (y .0) _ (ended .0) .0)) $ returns ! (look ! 4 refl) $
             keep ! (4 ∷ 5 ∷ 6 ∷ 7 ∷ 8 ∷ 9 ∷ 10 ∷ 11 ∷ 12 ∷ 13 ∷ 14 ∷ 15 ∷ 16 ∷ 17 ∷ 2 ∷ 18 ∷ 19 ∷ 20 ∷ 21 ∷ 22 ∷ 23 ∷ 24 ∷ 25 ∷ 26 ∷ 27 ∷ 28 ∷ 29 ∷ 30 ∷ 31 ∷ 32 ∷ 33 ∷ 34 ∷ 35 ∷ 36 ∷ 37 ∷ 38 ∷ 3 ∷ 1 ∷ 0 ∷ []) $

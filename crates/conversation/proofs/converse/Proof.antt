@@ -1,4 +1,12 @@
--- TOP
+-- `converse` asks what is pending first, plays its event and asks what is pending next as long as there is one, and tells what the
+-- last says. So it leaves what `Standing.antt` says: `begins` at the first, `goes` from one to the next, `ends` at the last. Its
+-- loop ends since `rankOf` falls. What each call does is in `Proof/Calls.antt`; how a walk counts places is said in `walks` Locals.
+-- The locals of the compiled code, whose blocks are l₀ to l₁₈:
+--     _0 what is returned  _1 bus  _2 array  _3 security  _4 tape  _5 filled  _6 said  _7 pending  _8 answer  _11 pending.more
+--     _9, _10              said, lent to `first_pending`: the pointer to its bytes, and the slice made of that
+--     _12                  bus, lent to `step_in_place`
+--     _13, _14, _15, _16   array and security, lent to `step_in_place`, each as pointer and slice
+--     _17, _18             said, lent to `next_pending`, as pointer and slice
 mod Calls
 use mathlib.Core.Path.{_≡_, refl, ap}
 use mathlib.Core.Bool.{Bool, true, false}
@@ -111,7 +119,8 @@ module _ {M : Type 1} (𝓤 : URA M) (H : Heap 𝓤) (A : Atoms 𝓤) (W : Given
         qed W (((‵ (flft the-bus.κ the-bus.q) ⊛ ‵ (flft the-array.κ the-array.q) ⊛ ‵ (flft the-security.κ the-security.q) ⊛ ‵ (flft the-tape.κ the-tape.q) ⊛ ‵ (flft the-said.κ the-said.q) ⊛ ‵ ftrue)
         ⊛ ‵ (Ref T.the-row the-bus.κ the-bus.x) ⊛ ‵ (Slice u8 the-array.κ the-array.x (sliced the-array ∷ [])) ⊛ ‵ (Slice u8 the-security.κ the-security.x (sliced the-security ∷ [])) ⊛ ‵ (Seen the-tape) ⊛ ‵ (usize .own filled (vint w64 filled ∷ [])) ⊛ ‵ (Slice u8 the-said.κ the-said.x (sliced the-said ∷ [])) ⊛ ‵ ftrue) ∷ ‵ ftrue ∷ []) ∵
         split ! $ split3 ! $ move ! (2 ∷ []) $ split3 ! $ move ! (2 ∷ []) $ split ! $ move ! (6 ∷ []) $ split3 ! $ move ! (2 ∷ []) $ split3 ! $ move ! (2 ∷ []) $ split3 ! $
-        -- [the number; the buffer; nothing; the security store; the tape; the bus; the array store; the tokens: of the buffer, nothing, of the security store, the tape, the bus and the array store; nothing]
+        -- [the number; the buffer; nothing; the security store; the tape; the bus; the array store; the tokens: of the buffer,
+        -- nothing, of the security store, the tape, the bus and the array store; nothing]
         move ! (1 ∷ 7 ∷ []) $ fjoin ! $ move ! (4 ∷ 9 ∷ []) $ fjoin ! $ move ! (4 ∷ 8 ∷ []) $ fjoin ! $ move ! (6 ∷ 9 ∷ []) $ fjoin ! $ move ! (6 ∷ 8 ∷ []) $ fjoin ! $ keep ! (0 ∷ 1 ∷ 2 ∷ 3 ∷ 4 ∷ []) $ done !
 
     module _ (is-array : Is (MutSlice (named 1) the-array.κ u8) the-array.x (sliced the-array ∷ [])) (is-security : Is (MutSlice (named 2) the-security.κ u8) the-security.x (sliced the-security ∷ [])) (is-tape : Is (ShrSlice (named 3) the-tape.κ u8) the-tape.x (sliced the-tape ∷ [])) (is-filled : Is usize filled (vint w64 filled ∷ []))
@@ -180,6 +189,7 @@ module _ {M : Type 1} (𝓤 : URA M) (H : Heap 𝓤) (A : Atoms 𝓤) (W : Given
               -- [the call; the tape; the buffer; the locals, _k at 3 + 2 k]
               calls ! fm (Played the-bus the-array the-security (st .bus) (st .array) (st .security) (st .pending .event)) (and-then ! (load ! (from ! (stop !)) (look ! 27 refl)) (and-then ! (load ! (from ! (stop !)) (look ! 31 refl)) (and-then ! (load ! (from ! (stop !)) (look ! 35 refl)) (and-then ! (load ! (from ! (fld ! refl (stop !))) (look-in ! 17 (sub ! 1 refl (whole !)))) (no-more !))))) (λ u. await ! tt $ pick ! (λ x. learn ! (λ played.
               land ! (from ! (stop !)) (init ! 19 refl (EL.lawful N.the-type N′.the-laws 𝓤 H A W tt .typed (x .0) _ (played .0) .0)) $ split3 ! $
+              -- [what is in hand; the locals, as at first]
               assigns ! (addr ! (from ! (fld ! refl (hop ! (look-in ! 17 (sub ! 0 refl (whole !))) (stop !))))) (from ! (stop !)) (init ! 39 refl (tt, tt)) $
               assigns ! (agg ! (and-then ! (load ! (from ! (stop !)) (look ! 39 refl)) (and-then ! (load ! (from ! (fld ! refl (stop !))) (look-in ! 17 (sub ! 1 refl (whole !)))) (no-more !)))) (from ! (stop !)) (init ! 41 refl (tt, (tt, (record { fits = is-said .0 .1 .0 }, tt)))) $
               move ! (3 ∷ 4 ∷ []) $

@@ -1,6 +1,6 @@
--- What the two calls of `answer_all` do, with no code around them: each lemma is the callee's contract, at what is in hand (`walks` Lends).
--- The bus's local and the buffer are lent for the first and come back. The stores are not needed after it, nor the buffer after the
--- second, so they go at their own lifetimes. The tape is shared: what is owned of it is had twice, and one of the two goes to a callee.
+-- What the two calls of `answer_all` do, with no code around them: each lemma is the callee's contract, at what is in hand.
+-- The bus's local and the buffer are lent for the first and come back (`walks` Lends). The stores are not needed after it, nor the
+-- buffer after the second, so they go at their own lifetimes. The tape is shared: what is owned of it is had twice, and one goes.
 use mathlib.Core.Path.{_≡_, refl}
 use Prim.Native.Nat.{ℕ}
 use mathlib.Core.List.{[], _∷_, List}
@@ -84,7 +84,8 @@ module _ {M : Type 1} (𝓤 : URA M) (H : Heap 𝓤) (A : Atoms 𝓤) (W : Given
     talks the-array the-security known bus is-bus l =
         qed W (‵ (Cell l bus) ∷ ‵ (Bytes the-array (the-array.x .now)) ∷ ‵ (Bytes the-security (the-security.x .now)) ∷ ‵ (Shown the-tape) ∷ ‵ (Bytes the-said (the-said.x .now)) ∷ []) ∵ updating ! $ lend-local ! tt T.the-row (LL.makes T.the-type T′.the-plain 𝓤 H A) refl l bus (mach-bus bus) is-bus (λ ν₀ δ₀.
         move ! (6 ∷ []) $ lend-slice ! tt u8 the-said.x (sliced the-said ∷ []) (λ ν₄ δ₄. move ! (6 ∷ []) $ fsplit ! $ move ! (8 ∷ []) $ fsplit ! $ move ! (10 ∷ []) $ fsplit ! $ seen-twice ! the-tape $
-        -- [the tape, twice, and its token; the security store and its token; the array store and its token; the token, what is lent and what is kept: of the buffer, of the bus]
+        -- [the tape, twice, and its token; the security store and its token; the array store and its token; the token, what is lent
+        -- and what is kept: of the buffer, of the bus]
         at-once ! $ nothing ! $ nothing ! $ nothing ! $ owned ! usize (Is usize) (uint-makes 𝓤 H A W w64) filled _ is-filled $ move ! (14 ∷ 10 ∷ 8 ∷ 6 ∷ 11 ∷ 1 ∷ []) $ group ! 6 $ move ! (10 ∷ 7 ∷ 6 ∷ 4 ∷ 1 ∷ 8 ∷ 2 ∷ []) $ group ! 7 $ move ! (1 ∷ 0 ∷ []) $ join ! $ join ! $
         use1 W (raw (Talk .pre (to-talk ν₀ ν₄ δ₀ δ₄))) (id⊢ 𝓤 _) $ asks ! fm Talk known (to-talk ν₀ ν₄ δ₀ δ₄) (λ w. updating ! $ answers ! tt talk.ended (talk.clauses 𝓤 H A mem run) (to-talk ν₀ ν₄ δ₀ δ₄) (λ it ws.
         move ! (3 ∷ []) $ heard ! ((it, ws .0, ws .1 .0, ws .1 .1 .0, ws .1 .1 .1 .1 .1 .0) ≡ converse (textOn (the-tape.x .now) filled) bus (the-array.x .now) (the-security.x .now) (the-said.x .now)) (λ talked. move ! (1 ∷ []) $ facts ! O.the-row (Is O.the-row) (shows 𝓤 H A O.the-row) it (w ∷ []) (λ is.

@@ -1,5 +1,5 @@
--- What each call of `converse` does, with no code around it: what the walk has in hand is lent for the call, and is had again when the
--- call is over, at what the callee ensures (`walks` Lends). So each lemma is the callee's contract, at what is in hand.
+-- What each call of `converse` does, with no code around it: what the walk has in hand is lent for the call, and is had again when
+-- the call is over, at what the callee ensures (`walks` Lends). So each lemma is the callee's contract, at what is in hand.
 -- The tape is shared: what is owned of it is had twice, and one of the two goes to the callee.
 use mathlib.Core.Path.{_≡_, refl, sym}
 use Prim.Native.Nat.{ℕ, _<_, _^_}

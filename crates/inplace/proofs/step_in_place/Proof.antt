@@ -1,5 +1,7 @@
--- `play` copies the bus out of its borrow, calls the step by value on it with the two stores, stores the state that came back and returns the answer that came with it. So what `Bus::step` ensures of its result is what `play` ensures of the two.
--- A bus owns only facts, so what the callee asks of one is made of them, and so is what the borrow is closed at. The stores are not needed after the call, and go to it at their own lifetimes.
+-- `step_in_place` copies the bus out of its borrow, calls the step by value on it with the two stores, stores the state that came
+-- back and returns the answer that came with it. So what `Bus::step` ensures of its result is what `step_in_place` ensures of the
+-- two. A bus owns only facts, so what the callee asks of one is made of them, and so is what the borrow is closed at.
+-- The stores are not needed after the call, and go to it at their own lifetimes.
 use mathlib.Core.Path.{_≡_, refl, ap}
 use Prim.Native.Nat.{ℕ, _<_, _^_}
 use mathlib.Core.List.{[], _∷_, List}
@@ -55,7 +57,7 @@ use Rattle.bus.proofs.Bus.step as by-value
 use Rattle.bus.proofs.Bus.step.Symbol as by-value-def
 use Rattle.bus.proofs.Bus.step.Symbol.{name as #bus·Bus·step}
 use Rattle.bus.proofs.Bus.step.Met as by-value-thm
-use Rattle.inplace.proofs.Locals.{held, blocks, freed}
+use Rattle.walks.proofs.Locals.{held, blocks, freed}
 use Rattle.inplace.proofs.step_in_place.Key.{name as #inplace·step-in-place}
 use Rattle.inplace.proofs.step_in_place as step-in-place
 use Rattle.inplace.proofs.step_in_place.Statement as stated
@@ -80,7 +82,8 @@ module _ (r : Stepped) (w : Val) (is : Is S.the-row r (w ∷ [])) where
   answer-is : Is N.the-row (r .answer) (mach-answer (r .answer) ∷ [])
   answer-is = LL.owed S.the-type S′.the-laws r _ is .1 .0
 
--- the code after the call leaves the two fields of the result in the bus's cell and in _0. It is walked at any types and values: at those of a bus, antt computes too long
+-- the code after the call leaves the two fields of the result in the bus's cell and in _0. It is walked at any types and values: at
+-- those of a bus, antt computes too long
 module _ {M : Type 1} {𝓤 : URA M} {H : Heap 𝓤} {A : Atoms 𝓤} (W : Given 𝓤 H A) (C : Calls 𝓤 H) (Λ : Loops 𝓤 H) (τ σ ρ : Ty) (ν : Sym) (b o l₀ l₁ l₅ : ℕ) (u₀ u v : Val) (c₂ c₃ c₄ c₆ c₇ c₈ c₉ c₁₀ : Ty × ℕ × Val) where
   abbrev result : Ty
   result = tyStruct ν (tcons τ (tcons σ tnil))

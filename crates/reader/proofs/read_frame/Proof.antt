@@ -20,7 +20,7 @@ use contract.Monad.{Fun, fact}
 use contract.Running.{givenOf, tables, tablesOf}
 use types.Kit.{Given, ‵, raw, some, given, later, Item, _⊛_, ⋆, mean, _$_, _∵_, !, qed, by, move, keep, drop, use1, use2, use3, split, split3, join, pick, learn, rewrite, fsplit, fjoin, fpick, fpack, suffices, frame, await, updating, now as at-once, show, check, done}
 use types.Part.{agg}
-use types.Run.{look, init, forget, stop, from, load, addr, and-then, no-more, assigns, land, returns, enter, alloc1, alloc0, params1, pass1, pass0, free1, free0}
+use types.Run.{look, init, stop, from, load, addr, and-then, no-more, assigns, land, returns, enter, alloc1, alloc0, params1, pass1, pass0}
 use types.SemTy.{Body}
 use types.Tokens.{lft-new}
 use sound.WpLaws.{fmOf, WpFn-mono}
@@ -46,6 +46,7 @@ use denote.Triple.Clauses.{Lasts, ensured, lasts}
 use denote.Triple.Table.{entered, cited}
 use denote.Triple.Walked.{says, Stays, stay-none-slice, stay-none, walkOf, goes-none-slice, goes-none, ends-at, walked, walk-meets}
 use denote.Exit.{yes}
+use Rattle.walks.proofs.Locals.{freed}
 use Rattle.transcript.specs.Frame.{frameAt}
 use Rattle.transcript.specs.declared.frame.Frame.{Frame}
 use Rattle.reader.specs.Reader.{Answered}
@@ -184,7 +185,7 @@ module _ {M : Type 1} (𝓤 : URA M) (H : Heap 𝓤) (A : Atoms 𝓤) (W : Given
         -- [_3; the token; what the slice owns; the others as before]
         land ! (from ! (stop !)) (init ! 10 refl (EL.lawful S.the-type S′.the-laws 𝓤 H A W tt .typed found _ (came .1) .0)) $
         returns ! (look ! 10 refl) $ keep ! (10 ∷ 11 ∷ 8 ∷ 9 ∷ 6 ∷ 7 ∷ 0 ∷ 5 ∷ 3 ∷ 4 ∷ 1 ∷ 2 ∷ []) $
-        forget ! 0 refl $ free1 ! $ forget ! 0 refl $ free1 ! $ forget ! 0 refl $ free1 ! $ forget ! 0 refl $ free1 ! $ forget ! 0 refl $ free1 ! $ free0 ! $ by ! (exits u found (came .0) (came .1)))))))))))))
+        freed W ((_, l₀, _) ∷ (_, l₁, _) ∷ (_, l₂, _) ∷ (_, l₃, _) ∷ (_, l₄, _) ∷ []) [] (by ! (exits u found (came .0) (came .1))))))))))))))
       where
         text-typed : Holds (hasTy (sliceTy (tyRef (named 0) imm (tyInt w8))) v) × WT v
         text-typed = shr-slice-lawful 𝓤 H A W (named 0) κ u8 .typed s (v ∷ []) is-text .0

@@ -18,7 +18,7 @@ use contract.Lifetimes.{AllOutlive}
 use contract.Monad.{Fun, fact}
 use contract.Running.{givenOf, tables, tablesOf}
 use types.Kit.{Given, ‵, raw, given, some, later, Item, _⊛_, ⋆, _$_, _∵_, !, qed, by, move, keep, drop, use1, use2, split, join, pick, learn, rewrite, fsplit, fsplit3, fjoin, fjoin3, feqI, suffices, frame, await, done}
-use types.Run.{look, init, store, forget, stop, hop, fld, from, load, of-opd, and-then, no-more, assigns, land, returns, enter, alloc1, alloc0, params1, pass1, pass0, free1, free0}
+use types.Run.{look, init, store, stop, hop, fld, from, load, of-opd, and-then, no-more, assigns, land, returns, enter, alloc1, alloc0, params1, pass1, pass0}
 use types.Part.{whole, sub, look-in, store-in}
 use types.SemTy.{Body}
 use sound.WpLaws.{fmOf, WpFn-mono}
@@ -43,6 +43,7 @@ use denote.Triple.Call.{calls-at}
 use denote.Triple.Clauses.{ensured, lasts}
 use denote.Triple.Table.{entered, cited}
 use denote.Triple.Walked.{says, Stays, stay-ref, walkOf, goes-ref, ends-at, walked, walk-meets}
+use Rattle.walks.proofs.Locals.{freed}
 use Rattle.transcript.specs.Frame.{meaning}
 use Rattle.reader.specs.Reader.{frameFor, Answered}
 use Rattle.transcript.specs.declared.frame.Frame.{Frame}
@@ -205,9 +206,8 @@ module _ {M : Type 1} (𝓤 : URA M) (H : Heap 𝓤) (A : Atoms 𝓤) (W : Given
         move ! (3 ∷ []) $ use1 W (‵ (cellAt fullShare (R .mir) (T′.lowered (moved-to m) ∷ []) b o)) (W .laws .at-raw fullShare (T′.mir erased) b o (T′.lowered (moved-to m))) $
         move ! (0 ∷ 1 ∷ 4 ∷ 5 ∷ 6 ∷ []) $ closes ! tt R (moved-to m) (T′.lowered (moved-to m) ∷ []) b o $
         -- [obs; the borrow; the token of 's; the line; the token of 'a; the locals: _5 at 5, _4 at 7, _3 at 9, _2 at 11, _1 at 13, _0 at 15]
-        returns ! (look ! 15 refl) $ forget ! 5 refl $ forget ! 7 refl $ forget ! 9 refl $ forget ! 11 refl $ forget ! 13 refl $ forget ! 15 refl $
-        move ! (15 ∷ 16 ∷ []) $ free1 ! $ move ! (13 ∷ 14 ∷ []) $ free1 ! $ move ! (11 ∷ 12 ∷ []) $ free1 ! $ move ! (9 ∷ 10 ∷ []) $ free1 ! $ move ! (7 ∷ 8 ∷ []) $ free1 ! $ move ! (5 ∷ 6 ∷ []) $ free1 ! $ free0 ! $
-        by ! (exits found u m e e′)))))))))))))))))
+        returns ! (look ! 15 refl) $ move ! (15 ∷ 16 ∷ 13 ∷ 14 ∷ 11 ∷ 12 ∷ 9 ∷ 10 ∷ 7 ∷ 8 ∷ 5 ∷ 6 ∷ []) $ freed W ((_, l₀, _) ∷ (_, l₁, _) ∷ (_, l₂, _) ∷ (_, l₃, _) ∷ (_, l₄, _) ∷ (_, l₅, _) ∷ []) []
+        (by ! (exits found u m e e′))))))))))))))))))
       where
         wt : Is R d (mach ∷ []) → WT mach
         wt is-reader = LL.lawful D L 𝓤 H A W .typed d _ is-reader .0 .1

@@ -1,5 +1,8 @@
 -- The locals of a walk, and its end: every local is freed, whatever it holds, by induction over the locals.
--- A local that holds something is its type, its block and its value, and one that is vacant its type and its block; the locals stand in the context in their order, each before what frees it.
+-- A local that holds something is its type, its block and its value, and one that is vacant its type and its block. The locals
+-- stand in the context in their order, each before what frees it, so that it is 2 from one local to the next.
+-- How a walk counts: a number given to `look`, `look-in`, `init`, `store`, `forget`, `rewrite`, `move` or `keep` is a place in the
+-- context, from 0 on. Comments in brackets say what stands where.
 use Prim.Native.Nat.{ℕ}
 use mathlib.Core.Path.{refl}
 use mathlib.Core.List.{List, [], _∷_, _++_}

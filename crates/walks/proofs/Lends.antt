@@ -1,10 +1,13 @@
--- What a walk holds as a `&mut`, or in a local, is lent for one call, and comes back when the call is over. Every loan has a lifetime of its own, which is made where the loan begins and ended where it comes back.
---     Ref, Slice               what a `&mut T`, a `&mut [T]` owns: x is its place, its name and its value, and vs the machine values of a slice
+-- What a walk holds as a `&mut`, or in a local, is lent for one call, and comes back when the call is over. Every loan has a
+-- lifetime of its own, which is made where the loan begins and ended where it comes back.
+--     Ref, Slice               what a `&mut T`, a `&mut [T]` owns: x is its place, its name and its value, vs a slice's machine
+--                              values
 --     HeldRef, HeldSlice       the same with the token of its lifetime: what the holder has
---     lend-ref, lend-slice     the holder's part becomes the token of the new lifetime ν, what is lent, under the new name δ, and what the holder keeps
---     ref-back, slice-back     these three, with the last value in the place of what was lent, become the holder's part at that value
+--     lend-ref, lend-slice     the holder's part becomes the token of the new lifetime ν, what is lent, under the new name δ, and
+--                              what the holder keeps
+--     ref-back, slice-back     these three, with the last value in the place of what was lent, become the holder's part at it
 --     lend-shared, shared-back     the same of a `&mut [T]` that is lent as a `&[T]`, and comes back as it was
---     lend-local, local-back   the same of plain data in a local: the local's cell is lent, and comes back with what is known of the value in it
+--     lend-local, local-back   the same of plain data in a local: its cell is lent, and comes back with what is known of its value
 --     as-long                  a slice that is the same for the machine as when it was passed is as long as it was
 --     asks, answers            a call with no code around it: what is asked for is at the head, and what comes back is taken apart
 use mathlib.Core.Path.{_≡_, refl, sym, _∙_, ap, subst}

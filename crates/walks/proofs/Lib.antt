@@ -1,0 +1,3 @@
+pub mod Lends
+pub mod Hand
+pub mod Locals

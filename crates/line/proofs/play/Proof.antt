@@ -1,21 +1,16 @@
 -- Each iteration is what the definition has of its chip (Takes), from where its shares start; parts are small, so that their sums fit.
 -- A chip is as it came until the loop is at it, so that its part is the one on the board.
 use mathlib.Core.Logic.{⊎-elim}
-use mathlib.Core.Path.{_≡_, _∙_, refl, ap, sym}
-use mathlib.Core.Bool.{true, false, _&&_}
+use mathlib.Core.Path.{_≡_, _∙_, refl, sym}
 use mathlib.Core.List.{List}
-use Rattle.decode.specs.Decode.{reaches, eventOf}
-use Rattle.decode.specs.Hearing.{hears}
 use Rattle.board.specs.declared.Place.{Place}
-use Rattle.board.specs.Place.{placeAt}
-use Rattle.chip.specs.Chip.{step}
 use Rattle.lineup.specs.Chips.{noChip, chipAt, placesOf}
 use Rattle.lineup.proofs.Laws.{place-at}
 use Rattle.lineup.proofs.Until.{until-none, until-more, until-end}
 use Rattle.base.specs.Fold.{upTo}
 use Rattle.base.specs.Least.{least}
 use Rattle.base.proofs.number.Laws.{least-first, least-most}
-use Rattle.parts.proofs.part.Laws.{sound-is, sound-of}
+use Rattle.parts.proofs.part.Laws.{sound-is}
 use Rattle.control.specs.declared.Said.the-variants.{Nothing}
 use Rattle.board.specs.Shares.{figuresAt, arrayStart, securityStart}
 use Rattle.board.proofs.Laws.{placed-most}
@@ -46,8 +41,7 @@ Inv-loop addressed count array₀ security₀ event n next₀ said₀ at₀ from
     × (i ≤ 4)
 
 abbrev μ-loop : tie.MeasureT-loop
-μ-loop addressed count array₀ security₀ event n next₀ said₀ at₀ from₀ i₀ array security next said at from i =
-    4 - i
+μ-loop addressed count array₀ security₀ event n next₀ said₀ at₀ from₀ i₀ array security next said at from i = 4 - i
 
 event-of-requires : tie.Need-event-of-requires Inv-loop μ-loop
 event-of-requires c κs = search needs
@@ -55,7 +49,6 @@ event-of-requires c κs = search needs
 placed-requires : tie.Need-placed-requires Inv-loop μ-loop
 placed-requires c κs = search needs
 
--- the function's entry
 abbrev entry : tie.After-event-of Inv-loop μ-loop → tie.Start Inv-loop μ-loop
 entry c = c .before .before .before
 
@@ -110,25 +103,14 @@ module _ (c : tie.After-and2 Inv-loop μ-loop) where
 
 -- the branch that a step was taken in, from where its two loans are over
 abbrev branch : tie.After-after Inv-loop μ-loop → tie.After-and2 Inv-loop μ-loop
-branch c =
-    let returned = c .before .before .before in
-    let lent-out = returned .before .before .before in
-    lent-out .before .before .before
+branch c = let returned = c .before .before .before in let lent-out = returned .before .before .before in lent-out .before .before .before
 
 loop-holds : tie.Need-loop-holds Inv-loop μ-loop
 unfolding upTo
 loop-holds c =
-    let a = entry (c .before) .args in (
-      until-none _ (c .placed .result) _,
-      sym (least-first 0 (length (a .array .now)) (omega arith)),
-      sym (least-first 0 (length (a .security .now)) (omega arith)),
-      omega arith,
-      omega arith,
-      refl,
-      refl,
-      (λ k past. refl),
-      omega arith,
-    )
+    let a = entry (c .before) .args in
+    let none : (n : ℕ) → 0 ≡ least 0 n = λ n. sym (least-first 0 n (omega arith)) in
+    (until-none _ (c .placed .result) _, none (length (a .array .now)), none (length (a .security .now)), omega arith, omega arith, refl, refl, (λ k past. refl), omega arith)
 
 mul-chip : tie.Need-mul-chip Inv-loop μ-loop
 mul-chip c = omega arith
@@ -206,18 +188,16 @@ loop-less : tie.Need-loop-less Inv-loop μ-loop
 loop-less c = omega arith
 
 -- where both ways meet: chip i has taken the event, the stores are as long as before, and the chips behind it are as they came
-turned : (c : tie.Joined1 Inv-loop μ-loop)
-    → let l = head (c .before) .loop in
-    let a = entry (outside (c .before)) .args in
-    let n = head (c .before) .before .placed .result in
+-- (w .3 is its step; w .10 to .13, or .1 to .4 where it was passed by, are the stores, the chips and what was said)
+iterated : (c : tie.Joined1 Inv-loop μ-loop)
+    → let l = head (c .before) .loop in let n = head (c .before) .before .placed .result in let a = entry (outside (c .before)) .args in
     (world (c .if1 .next) (c .if1 .said) (c .if1 .array) (c .if1 .security)
     ≡ upTo (chipTakes (a .addressed) (placesOf (a .chips))) (least (l .i + 1) n) (world (a .chips) Nothing (a .array .now) (a .security .now)))
     × (length (c .if1 .array) ≡ length (l .array))
     × (length (c .if1 .security) ≡ length (l .security))
     × ((k : ℕ) → l .i + 1 ≤ k → chipAt (c .if1 .next) k ≡ chipAt (a .chips) k)
-turned c =
-    let b = c .before in
-    let l = head b .loop in
+iterated c =
+    let b = c .before in let l = head b .loop in
     let addressed = entry (outside b) .args .addressed in
     let n = head b .before .placed .result in
     let array-end = share-ends _ _ _ _ _ (array-begins b) (array-ends b) in
@@ -225,26 +205,22 @@ turned c =
     ⊎-elim
     (λ w.
     let q = w .3 in
-    let both : (ltb (l .i) n && b .before .and .result) ≡ true = sym (b .and2 .ensures) ∙ w .0 .taken in
-    let hearing : (asked b .reaches .result && b .before .before .hears .result) ≡ true = sym (b .before .and .ensures) ∙ and-right (ltb (l .i) n) _ both in (
+    let both = sym (b .and2 .ensures) ∙ w .0 .taken in
+    let hearing = sym (b .before .and .ensures) ∙ and-right (ltb (l .i) n) _ both in (
       until-more _ n _ (l .i) (l .inv .0) (ltb-true _ _ (and-left _ _ both))
           (rw (w .12) (chip-takes addressed (places b) (l .i) (l .next) (l .said) (l .array) (l .security) (q .result) _ _ _ _ _ _ _
           (sym (asked b .reaches .ensures) ∙ and-left _ _ hearing)
-          (lent _ _ _ _ (l .array) (array-begins b) array-end)
-          (lent _ _ _ _ (l .security) (security-begins b) security-end)
+          (lent _ _ _ _ (l .array) (array-begins b) array-end) (lent _ _ _ _ (l .security) (security-begins b) security-end)
           (w .10 ∙ back _ _ _ _ (l .array) (array-begins b) array-end (q .last .1 .0) (q .kept .1 .0))
           (w .11 ∙ back _ _ _ _ (l .security) (security-begins b) security-end (q .last .1 .1 .0) (q .kept .1 .1 .0))
-          (q .ensures ∙ ap (step (chipAt (l .next) (l .i)) _ _) (outside b .event-of .ensures))
-          (w .13 ∙ w .9 .ensures))),
+          (rw (outside b .event-of .ensures) at (q .ensures)) (w .13 ∙ w .9 .ensures))),
       rw (w .10) (same-len-mid {X = ℕ} (l .at) (cut b .least .result - l .at) (l .array) (q .last .1 .0) (q .kept .1 .0)),
       rw (w .11) (same-len-mid {X = ℕ} (l .from) (asked b .before .least2 .result - l .from) (l .security) (q .last .1 .1 .0) (q .kept .1 .1 .0)),
       (λ k past. rw (w .12) (getD-set-other (l .next) (l .i) k (q .result .chip) noChip (λ (is : k ≡ l .i). absurd (omega arith)) ∙ l .inv .7 k (omega arith))),
     ))
-    (λ w.
-    let phase = chipAt (l .next) (l .i) .control .phase in
-    let deaf : (ltb (l .i) n && (reaches addressed (l .i) && hears (eventOf addressed) phase)) ≡ false =
-    rw (← asked b .reaches .ensures, ← outside b .event-of .ensures, ← b .before .before .hears .ensures, ← b .before .and .ensures, ← b .and2 .ensures) (w .0 .left) in (
-      rw (w .3, w .4, w .1, w .2) (none-takes addressed (places b) (l .i) n (l .next) (l .said) (l .array) (l .security) _ (l .inv .0) deaf),
+    (λ w. (
+      rw (w .3, w .4, w .1, w .2) (none-takes addressed (places b) (l .i) n (l .next) (l .said) (l .array) (l .security) _ (l .inv .0)
+          (rw (← asked b .reaches .ensures, ← outside b .event-of .ensures, ← b .before .before .hears .ensures, ← b .before .and .ensures, ← b .and2 .ensures) (w .0 .left))),
       rw (w .1) refl,
       rw (w .2) refl,
       (λ k past. rw (w .3) (l .inv .7 k (omega arith))),
@@ -253,14 +229,13 @@ turned c =
 
 loop-again : tie.Need-loop-again Inv-loop μ-loop
 loop-again c =
-    let b = c .before in
-    let l = head b .loop in
-    let now = turned c in (
+    let b = c .before in let l = head b .loop in let g = sized b .geometry-of in
+    let now = iterated c in (
       now .0,
       next-begins (λ (k : ℕ). figuresAt (places b) k .array) (l .i) _ _ _ _ (array-begins b) (array-ends b) (l .inv .5),
       next-begins (λ (k : ℕ). figuresAt (places b) k .security) (l .i) _ _ _ _ (security-begins b) (security-ends b) (l .inv .6),
-      omega (arith, array-ends b, least-most (l .at + figuresAt (places b) (l .i) .array) (length (l .array)), sound-of (placeAt (places b) (l .i) .part) .array-most),
-      omega (arith, security-ends b, least-most (l .from + figuresAt (places b) (l .i) .security) (length (l .security)), sound-of (placeAt (places b) (l .i) .part) .security-most),
+      omega (arith, cut b .least .ensures, least-most (l .at + g .result .array) (length (l .array)), sound-is _ (g .ensures) .array-most),
+      omega (arith, asked b .before .least2 .ensures, least-most (l .from + g .result .security) (length (l .security)), sound-is _ (g .ensures) .security-most),
       now .1 ∙ l .inv .5,
       now .2 ∙ l .inv .6,
       now .3,
@@ -276,8 +251,7 @@ same-length-2 c = c .before .loop .inv .6
 returns : tie.Need-returns Inv-loop μ-loop
 unfolding play
 returns c =
-    let l = c .before .loop in
-    let all = c .before .before .placed .ensures in
+    let l = c .before .loop in let all = c .before .before .placed .ensures in
     let most = placed-most (entry (c .before .before .before) .args .count) in
     up-end _ _ all (until-end _ (c .before .before .placed .result) _ (l .i) (omega (arith, c .loop-test .left)) (l .inv .0))
 

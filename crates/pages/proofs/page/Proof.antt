@@ -2,13 +2,11 @@
 use borrow.Author.Needs.{needs}
 use borrow.Author.Tests.{eq-eqb, ne-eqb}
 use native.Mathlib.Omega.{arith}
-use mathlib.Core.Path.{_≡_, _∙_, sym, ap, subst}
-use Rattle.refusal.specs.declared.Verdict.{Verdict}
+use mathlib.Core.Path.{_≡_, _∙_, sym}
 use Rattle.refusal.specs.declared.Verdict.the-variants.{Passed}
-use Rattle.refusal.specs.Checks.{isPassed}
 use Rattle.lineup.specs.Chips.{placesOf}
 use Rattle.bus.proofs.Entry.{passed}
-use Rattle.pages.specs.Page.{pageVerdict, shownBy, Shows}
+use Rattle.pages.specs.Page.{pageVerdict}
 use Rattle.pages.proofs.Accepted.{refused-shows, chip-below, page-there, in-array, in-security}
 use Rattle.pages.proofs.page.Statement.{statement}
 use Rattle.pages.proofs.page.Tie as tie
@@ -38,8 +36,8 @@ array-copy-out-place c = chip-below _ _ _ _ _ _ (accepted (c .before .before))
 abbrev listed : tie.After-geometry-of → tie.After-places-of
 listed c = c .before .before
 
-abbrev answered : tie.After-geometry-of → tie.Then1
-answered c = listed c .before .before
+abbrev granted : tie.After-geometry-of → tie.Then1
+granted c = listed c .before .before
 
 geometry-of-requires : tie.Need-geometry-of-requires
 geometry-of-requires c κs = search needs
@@ -49,31 +47,31 @@ cast-size c = search needs
 
 page-start-requires : tie.Need-page-start-requires
 page-start-requires c κs =
-    let asked = accepted (answered (c .before)) in
+    let asked = accepted (granted (c .before)) in
     (chip-below _ _ _ _ _ _ asked, rw (listed (c .before) .places-of .ensures) (page-there _ _ _ _ _ _ asked))
 
 between-requires : tie.Need-between-requires
 between-requires c κs =
     let p = c .before in let g = p .before .before in
-    rw (p .page-start .ensures, g .geometry-of .ensures, listed g .places-of .ensures) (in-array _ _ _ _ _ _ (accepted (answered g)) (eq-eqb _ _ (c .if2 .taken)))
-
-returns : tie.Need-returns
-returns c =
-    let p = c .before .before in let g = p .before .before in let is = eq-eqb _ _ (c .before .if2 .taken) in
-    rw (accepted (answered g), is) (rw (p .page-start .ensures, g .geometry-of .ensures, listed g .places-of .ensures, is) at (c .between .ensures))
+    rw (p .page-start .ensures, g .geometry-of .ensures, listed g .places-of .ensures) (in-array _ _ _ _ _ _ (accepted (granted g)) (eq-eqb _ _ (c .if2 .taken)))
 
 between-requires-2 : tie.Need-between-requires-2
 between-requires-2 c κs =
     let p = c .before in let g = p .before .before in
-    rw (p .page-start .ensures, g .geometry-of .ensures, listed g .places-of .ensures) (in-security _ _ _ _ _ _ (accepted (answered g)) (ne-eqb _ _ (c .if2 .left)))
+    rw (p .page-start .ensures, g .geometry-of .ensures, listed g .places-of .ensures) (in-security _ _ _ _ _ _ (accepted (granted g)) (ne-eqb _ _ (c .if2 .left)))
+
+between-requires-3 : tie.Need-between-requires-3
+between-requires-3 c κs = omega arith
+
+returns : tie.Need-returns
+returns c =
+    let p = c .before .before in let g = p .before .before in let is = eq-eqb _ _ (c .before .if2 .taken) in
+    rw (accepted (granted g), is) (rw (p .page-start .ensures, g .geometry-of .ensures, listed g .places-of .ensures, is) at (c .between .ensures))
 
 returns-2 : tie.Need-returns-2
 returns-2 c =
     let p = c .before .before in let g = p .before .before in let is = ne-eqb _ _ (c .before .if2 .left) in
-    rw (accepted (answered g), is) (rw (p .page-start .ensures, g .geometry-of .ensures, listed g .places-of .ensures, is) at (c .between2 .ensures))
-
-between-requires-3 : tie.Need-between-requires-3
-between-requires-3 c κs = omega arith
+    rw (accepted (granted g), is) (rw (p .page-start .ensures, g .geometry-of .ensures, listed g .places-of .ensures, is) at (c .between2 .ensures))
 
 returns-3 : tie.Need-returns-3
 returns-3 c =

@@ -71,10 +71,8 @@ same-length-5 c = search needs
 
 returns-3 : tie.Need-returns-3
 returns-3 c =
-    let handed-back = c .before .before .before in
-    let ran = handed-back .before .before .before in
-    let lent = ran .before .before .before in
-    let told = lent .before in
+    let handed-back = c .before .before .before in let ran = handed-back .before .before .before in
+    let lent = ran .before .before .before in let told = lent .before in
     ap (λ (progress : Progress). (Passed, progress)) (ran .run-all .ensures) ∙ decides (told .before .before) (told .enum-told .given .1)
 
 pub run-spec : {M : Type 1} → statement M

@@ -34,16 +34,16 @@ same-length c = search needs
 returns-2 : tie.Need-returns-2
 unfolding finished
 returns-2 c =
-    let left = c .before .before .before in let end = left .before .before .text-end in let room = c .before .has-room in
-    rw (← end .ensures, lt-leb _ _ (left .if1 .left), ← room .ensures, not-true (room .result) (c .if2 .taken)) refl
+    let rest = c .before .before .before in let end = rest .before .before .text-end in let room = c .before .has-room in
+    rw (← end .ensures, lt-leb _ _ (rest .if1 .left), ← room .ensures, not-true (room .result) (c .if2 .taken)) refl
 
 -- where something is left, and there is room
 module _ (c : tie.Else2) where
-  abbrev left : tie.Else1
-  left = c .before .before .before
+  abbrev rest : tie.Else1
+  rest = c .before .before .before
 
   abbrev ended : tie.After-text-end
-  ended = left .before .before
+  ended = rest .before .before
 
   abbrev entry : tie.Start
   entry = ended .before .before .before
@@ -57,8 +57,12 @@ closing-requires c κs = search needs
 put-requires : tie.Need-put-requires
 put-requires c κs = room (c .before .before)
 
+-- the same, from where the closing line is put
+abbrev roomy : tie.After-put → tie.Else2
+roomy c = c .before .before .before
+
 add-t15 : tie.Need-add-t15
-add-t15 c = let p = c .before .before in omega (arith, room (p .before .before .before))
+add-t15 c = omega (arith, room (roomy (c .before .before)))
 
 same-length-2 : tie.Need-same-length-2
 same-length-2 c = search needs
@@ -66,9 +70,9 @@ same-length-2 c = search needs
 returns-3 : tie.Need-returns-3
 unfolding finished
 returns-3 c =
-    let p = c .before .before in let b = p .before .before .before in
+    let p = c .before .before in let b = roomy p in
     let a = entry b .args in let end = ended b .text-end in let asked = b .before .has-room in
-    rw (← end .ensures, lt-leb _ _ (left b .if1 .left), ← asked .ensures, not-false (asked .result) (b .if2 .left))
+    rw (← asked .ensures, not-false (asked .result) (b .if2 .left), ← end .ensures, lt-leb _ _ (rest b .if1 .left))
     (ap (closed (end .result) (a .heard .written + 9)) (p .put .ensures ∙ ap (λ (line : List ℕ). patched (a .heard .written) line (now (a .said))) (p .before .before .closing .ensures)))
 
 pub finish-spec : {M : Type 1} → statement M

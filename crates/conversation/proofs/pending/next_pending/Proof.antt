@@ -48,16 +48,13 @@ put-requires c κs = room (c .before .before .before)
 text-end-requires : tie.Need-text-end-requires
 text-end-requires c κs = search needs
 
--- and the answer is in its place
+-- where the answer is in its place, from the text's end
 module _ (c : tie.After-text-end) where
   abbrev put-there : tie.After-put
   put-there = c .before .before .before
 
-  abbrev worded : tie.After-printed
-  worded = put-there .before .before
-
   abbrev roomy : tie.Else1
-  roomy = worded .before .before
+  roomy = let worded = put-there .before .before in worded .before .before
 
 slice-aggregate-pending-at : tie.Need-slice-aggregate-pending-at
 slice-aggregate-pending-at c =
@@ -76,12 +73,13 @@ returns-2 : tie.Need-returns-2
 unfolding nextPending
 returns-2 c =
     let p = c .before .before in let t = p .before .before .before in let b = roomy t in let a = entry b .args in
-    let asked = b .before .has-room in let store = put-there t .put in
+    let asked = b .before .has-room in let store = put-there t .put in let worded = put-there t .before .before in
     rw (← asked .ensures, not-false (asked .result) (b .if1 .left))
     (p .pending-at .ensures
     ∙ ap (λ (text : List ℕ). pendingAt text (a .pending .at) (store .last .1 .0) (a .pending .written + 9)) (text-before (now (a .tape)) (a .filled) (t .text-end .ensures))
     ∙ ap (λ (said : List ℕ). pendingAt (textOn (now (a .tape)) (a .filled)) (a .pending .at) said (a .pending .written + 9))
-    (store .ensures ∙ ap (λ (line : List ℕ). patched (a .pending .written) line (now (a .said))) (worded t .printed .ensures ∙ ap (printed (a .pending .event)) (worded t .before .answer-word .ensures))))
+    (store .ensures
+    ∙ ap (λ (line : List ℕ). patched (a .pending .written) line (now (a .said))) (worded .printed .ensures ∙ ap (printed (a .pending .event)) (worded .before .answer-word .ensures))))
 
 pub next-pending-spec : {M : Type 1} → statement M
 next-pending-spec =

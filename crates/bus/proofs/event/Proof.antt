@@ -1,9 +1,9 @@
--- What the checks say decides.
+-- What the checks say decides: refused, or played to the chips that it addresses.
 use Rattle.refusal.specs.declared.Verdict.{Verdict}
 use Rattle.bus.specs.Step.{stepBy, event}
 use Rattle.decode.specs.declared.Addressed.{Addressed}
 use Rattle.bus.specs.Step.{played}
-use mathlib.Core.Path.{_∙_, ap, sym}
+use mathlib.Core.Path.{_≡_, _∙_, ap, sym}
 use borrow.Author.Needs.{needs}
 use Rattle.bus.proofs.event.Statement.{statement}
 use Rattle.bus.proofs.event.Tie as tie
@@ -23,10 +23,17 @@ addressed-of-requires c κs = search needs
 played-requires : tie.Need-played-requires
 played-requires c κs = search needs
 
+module _ (c : tie.After-event-verdict) where
+  abbrev entry : tie.Start
+  entry = c .before .before .before
+
+  decides : {v : Verdict} → c .event-verdict .result ≡ v
+      → let a = entry .args in stepBy v (a .bus) (a .array .now) (a .security .now) (a .word) ≡ event (a .bus) (a .array .now) (a .security .now) (a .word)
+  unfolding event
+  decides is = let a = entry .args in ap (λ (v : Verdict). stepBy v (a .bus) (a .array .now) (a .security .now) (a .word)) (sym is ∙ c .event-verdict .ensures)
+
 returns : tie.Need-returns
-unfolding event
-returns c = let a = c .before .before .before .before .before .before .args in
-    ap (λ (v : Verdict). stepBy v (a .bus) (a .array .now) (a .security .now) (a .word)) (sym (c .before .verdict .given .1) ∙ c .before .before .before .event-verdict .ensures)
+returns c = decides (c .before .before .before) (c .before .verdict .given .1)
 
 same-length : tie.Need-same-length
 same-length c = search needs
@@ -35,11 +42,10 @@ same-length-2 : tie.Need-same-length-2
 same-length-2 c = search needs
 
 returns-2 : tie.Need-returns-2
-unfolding event
-returns-2 c = let a = c .before .before .before .before .before .before .before .before .before .before .before .before .before .args in
-    c .before .before .before .before .played .ensures
-    ∙ ap (λ (o : Addressed). played o (a .bus) (a .array .now) (a .security .now)) (c .before .before .before .before .before .before .before .addressed-of .ensures)
-    ∙ ap (λ (v : Verdict). stepBy v (a .bus) (a .array .now) (a .security .now) (a .word)) (sym (c .before .before .before .before .before .before .before .before .enum-told .given .1) ∙ c .before .before .before .before .before .before .before .before .before .before .event-verdict .ensures)
+returns-2 c =
+    let handed-back = c .before .before .before in let p = handed-back .before in
+    let o = p .before .before .before in let told = o .before in let v = told .before .before in let a = entry v .args in
+    p .played .ensures ∙ ap (λ (o : Addressed). played o (a .bus) (a .array .now) (a .security .now)) (o .addressed-of .ensures) ∙ decides v (told .enum-told .given .1)
 
 pub event-spec : {M : Type 1} → statement M
 event-spec =

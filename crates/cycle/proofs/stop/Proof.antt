@@ -75,7 +75,9 @@ same-length-2 : tie.Need-same-length-2
 same-length-2 c = search needs
 
 returns-6 : tie.Need-returns-6
-returns-6 c = c .before .before .before .before .stop-data .ensures ∙ met _ _ _ _ (c .before .before .before .before .before .before .before .before .phase .given .1)
+returns-6 c =
+    let handed-back = c .before .before .before in let stored = handed-back .before in let lent = stored .before .before in
+    stored .stop-data .ensures ∙ met _ _ _ _ (lent .before .before .phase .given .1)
 
 returns-7 : tie.Need-returns-7
 returns-7 c = rw (c .standby-now5 .ensures) (met _ _ _ _ (c .before .enum-told6 .given .1))

@@ -2,13 +2,11 @@
 use borrow.Author.Needs.{needs}
 use borrow.Author.Tests.{eq-eqb, ne-eqb}
 use native.Mathlib.Omega.{arith}
-use mathlib.Core.Path.{_≡_, _∙_, sym, ap, subst}
-use Rattle.refusal.specs.declared.Verdict.{Verdict}
+use mathlib.Core.Path.{_≡_, _∙_, sym}
 use Rattle.refusal.specs.declared.Verdict.the-variants.{Passed}
-use Rattle.refusal.specs.Checks.{isPassed}
 use Rattle.lineup.specs.Chips.{placesOf}
 use Rattle.bus.proofs.Entry.{passed}
-use Rattle.pages.specs.Page.{pageVerdict, shownBy, Shows}
+use Rattle.pages.specs.Page.{pageVerdict}
 use Rattle.pages.proofs.Accepted.{refused-shows, chip-below, page-there, in-array, in-security}
 use Rattle.pages.proofs.page.Statement.{statement}
 use Rattle.pages.proofs.page.Tie as tie
@@ -22,8 +20,11 @@ is-passed-requires c κs = search needs
 places-of-requires : tie.Need-places-of-requires
 places-of-requires c κs = search needs
 
+abbrev entry : tie.After-page-verdict → tie.Start
+entry c = c .before .before .before
+
 -- where the question was 0
-accepted : (c : tie.Then1) → let a = c .before .before .before .before .before .args in pageVerdict (a .bus) (a .array .now) (a .security .now) (a .chip) (a .store) (a .page) ≡ Passed
+accepted : (c : tie.Then1) → let a = entry (c .before .before) .args in pageVerdict (a .bus) (a .array .now) (a .security .now) (a .chip) (a .store) (a .page) ≡ Passed
 accepted c = sym (c .before .before .page-verdict .ensures) ∙ passed _ (sym (c .before .is-passed .ensures) ∙ c .if1 .taken)
 
 mul-place : tie.Need-mul-place
@@ -32,6 +33,12 @@ mul-place c = omega (arith, chip-below _ _ _ _ _ _ (accepted (c .before .before)
 array-copy-out-place : tie.Need-array-copy-out-place
 array-copy-out-place c = chip-below _ _ _ _ _ _ (accepted (c .before .before))
 
+abbrev listed : tie.After-geometry-of → tie.After-places-of
+listed c = c .before .before
+
+abbrev granted : tie.After-geometry-of → tie.Then1
+granted c = listed c .before .before
+
 geometry-of-requires : tie.Need-geometry-of-requires
 geometry-of-requires c κs = search needs
 
@@ -39,33 +46,39 @@ cast-size : tie.Need-cast-size
 cast-size c = search needs
 
 page-start-requires : tie.Need-page-start-requires
-page-start-requires c κs = (chip-below _ _ _ _ _ _ (accepted (c .before .before .before .before .before)), rw (c .before .before .before .places-of .ensures) (page-there _ _ _ _ _ _ (accepted (c .before .before .before .before .before))))
+page-start-requires c κs =
+    let asked = accepted (granted (c .before)) in
+    (chip-below _ _ _ _ _ _ asked, rw (listed (c .before) .places-of .ensures) (page-there _ _ _ _ _ _ asked))
 
 between-requires : tie.Need-between-requires
-between-requires c κs = rw (c .before .page-start .ensures, c .before .before .before .geometry-of .ensures, c .before .before .before .before .before .places-of .ensures) (in-array _ _ _ _ _ _ (accepted (c .before .before .before .before .before .before .before)) (eq-eqb _ _ (c .if2 .taken)))
-
-returns : tie.Need-returns
-returns c = let a = c .before .before .before .before .before .before .before .before .before .before .before .before .before .args in
-    subst (λ (v : Verdict). Shows (shownBy v (placesOf (a .bus .chips)) (a .array) (a .security) (a .chip) (a .store) (a .page)) (c .between .result)) (sym (accepted (c .before .before .before .before .before .before .before .before)))
-    (rw (eq-eqb _ _ (c .before .if2 .taken)) (rw (c .before .before .page-start .ensures, c .before .before .before .before .geometry-of .ensures, c .before .before .before .before .before .before .places-of .ensures, eq-eqb _ _ (c .before .if2 .taken)) at (c .between .ensures)))
+between-requires c κs =
+    let p = c .before in let g = p .before .before in
+    rw (p .page-start .ensures, g .geometry-of .ensures, listed g .places-of .ensures) (in-array _ _ _ _ _ _ (accepted (granted g)) (eq-eqb _ _ (c .if2 .taken)))
 
 between-requires-2 : tie.Need-between-requires-2
-between-requires-2 c κs = rw (c .before .page-start .ensures, c .before .before .before .geometry-of .ensures, c .before .before .before .before .before .places-of .ensures) (in-security _ _ _ _ _ _ (accepted (c .before .before .before .before .before .before .before)) (ne-eqb _ _ (c .if2 .left)))
-
-returns-2 : tie.Need-returns-2
-returns-2 c = let a = c .before .before .before .before .before .before .before .before .before .before .before .before .before .args in
-    subst (λ (v : Verdict). Shows (shownBy v (placesOf (a .bus .chips)) (a .array) (a .security) (a .chip) (a .store) (a .page)) (c .between2 .result)) (sym (accepted (c .before .before .before .before .before .before .before .before)))
-    (rw (ne-eqb _ _ (c .before .if2 .left)) (rw (c .before .before .page-start .ensures, c .before .before .before .before .geometry-of .ensures, c .before .before .before .before .before .before .places-of .ensures, ne-eqb _ _ (c .before .if2 .left)) at (c .between2 .ensures)))
+between-requires-2 c κs =
+    let p = c .before in let g = p .before .before in
+    rw (p .page-start .ensures, g .geometry-of .ensures, listed g .places-of .ensures) (in-security _ _ _ _ _ _ (accepted (granted g)) (ne-eqb _ _ (c .if2 .left)))
 
 between-requires-3 : tie.Need-between-requires-3
 between-requires-3 c κs = omega arith
 
+returns : tie.Need-returns
+returns c =
+    let p = c .before .before in let g = p .before .before in let is = eq-eqb _ _ (c .before .if2 .taken) in
+    rw (accepted (granted g), is) (rw (p .page-start .ensures, g .geometry-of .ensures, listed g .places-of .ensures, is) at (c .between .ensures))
+
+returns-2 : tie.Need-returns-2
+returns-2 c =
+    let p = c .before .before in let g = p .before .before in let is = ne-eqb _ _ (c .before .if2 .left) in
+    rw (accepted (granted g), is) (rw (p .page-start .ensures, g .geometry-of .ensures, listed g .places-of .ensures, is) at (c .between2 .ensures))
+
 returns-3 : tie.Need-returns-3
 returns-3 c =
-    let a = c .before .before .before .before .before .before .args in
-    refused-shows (pageVerdict (a .bus) (a .array .now) (a .security .now) (a .chip) (a .store) (a .page)) (placesOf (a .bus .chips)) (a .array) (a .security) (a .chip) (a .store) (a .page) (c .between3 .result)
-    (ap isPassed (sym (c .before .before .before .page-verdict .ensures)) ∙ sym (c .before .before .is-passed .ensures) ∙ c .before .if1 .left)
-    (c .between3 .ensures)
+    let v = c .before .before .before in let a = entry v .args in
+    rw (← v .page-verdict .ensures)
+    (refused-shows (v .page-verdict .result) (placesOf (a .bus .chips)) (a .array) (a .security) (a .chip) (a .store) (a .page) (c .between3 .result)
+    (sym (c .before .before .is-passed .ensures) ∙ c .before .if1 .left) (c .between3 .ensures))
 
 pub page-spec : {M : Type 1} → statement M
 page-spec =

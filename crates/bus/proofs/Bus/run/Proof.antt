@@ -1,4 +1,4 @@
--- Check 11, then the entry checks; where they pass, one event after the other.
+-- Check 11, then the entry checks: the first that fails is the answer. Where all pass, one event after the other (run_all).
 use borrow.Author.Tests.{lt-ltb, le-ltb}
 use Rattle.refusal.specs.declared.Refusal.the-variants.{ShortBuffer}
 use Rattle.refusal.specs.declared.Verdict.{Verdict}
@@ -6,19 +6,41 @@ use Rattle.refusal.specs.declared.Verdict.the-variants.{Passed, Refused}
 use Rattle.refusal.specs.Checks.{firstOf}
 use Rattle.bus.specs.Step.{entryChecks}
 use Rattle.bus.specs.Run.{Progress, runBy, run}
-use mathlib.Core.Path.{_∙_, ap, sym}
+use mathlib.Core.Path.{_≡_, _∙_, ap, sym}
 use mathlib.Core.Bool.{Bool, cond}
 use borrow.Author.Needs.{needs}
 use Rattle.bus.proofs.Bus.run.Statement.{statement}
 use Rattle.bus.proofs.Bus.run.Tie as tie
 
+abbrev entry : tie.After-shared-slice-known → tie.Start
+entry c = c .before .before .before
+
+-- what a call answers, by whether its buffer is short
+abbrev answer : tie.Start → Bool → Verdict × Progress
+answer c short =
+    let a = c .args in
+    runBy (cond short (Refused ShortBuffer) (firstOf (entryChecks (a .self) (a .array .now) (a .security .now)))) (a .events .now) (a .self, a .array .now, a .security .now, a .answers .now)
+
 returns : tie.Need-returns
 unfolding run
-returns c = let a = c .before .before .before .before .before .args in
-    ap (λ (short : Bool). runBy (cond short (Refused ShortBuffer) (firstOf (entryChecks (a .self) (a .array .now) (a .security .now)))) (a .events .now) (a .self, a .array .now, a .security .now, a .answers .now)) (sym (lt-ltb _ _ (c .if1 .taken)))
+returns c = ap (answer (entry (c .before .before))) (sym (lt-ltb _ _ (c .if1 .taken)))
 
 entry-verdict-requires : tie.Need-entry-verdict-requires
 entry-verdict-requires c κs = search needs
+
+-- where it is not, what the entry checks say decides
+module _ (c : tie.After-entry-verdict) where
+  abbrev long-enough : tie.Else1
+  long-enough = c .before .before .before
+
+  decides : {v : Verdict} → c .entry-verdict .result ≡ v
+      → let a = entry (long-enough .before .before) .args in
+      runBy v (a .events .now) (a .self, a .array .now, a .security .now, a .answers .now) ≡ run (a .self) (a .array .now) (a .security .now) (a .events .now) (a .answers .now)
+  unfolding run
+  decides is =
+      let s = entry (long-enough .before .before) in let a = s .args in
+      ap (λ (v : Verdict). runBy v (a .events .now) (a .self, a .array .now, a .security .now, a .answers .now)) (sym is ∙ c .entry-verdict .ensures)
+      ∙ ap (answer s) (sym (le-ltb _ _ (long-enough .if1 .left)))
 
 enum-known-verdict : tie.Need-enum-known-verdict
 enum-known-verdict c = search needs
@@ -27,7 +49,7 @@ enum-told : tie.Need-enum-told
 enum-told c = search needs
 
 run-all-requires : tie.Need-run-all-requires
-run-all-requires c κs = c .before .before .before .before .before .before .before .before .if1 .left
+run-all-requires c κs = let told = c .before .before .before in long-enough (told .before .before) .if1 .left
 
 same-length : tie.Need-same-length
 same-length c = search needs
@@ -36,10 +58,7 @@ same-length-2 : tie.Need-same-length-2
 same-length-2 c = search needs
 
 returns-2 : tie.Need-returns-2
-unfolding run
-returns-2 c = let a = c .before .before .before .before .before .before .before .before .before .before .before .args in
-    ap (λ (v : Verdict). runBy v (a .events .now) (a .self, a .array .now, a .security .now, a .answers .now)) (sym (c .before .verdict .given .1) ∙ c .before .before .before .entry-verdict .ensures)
-    ∙ ap (λ (short : Bool). runBy (cond short (Refused ShortBuffer) (firstOf (entryChecks (a .self) (a .array .now) (a .security .now)))) (a .events .now) (a .self, a .array .now, a .security .now, a .answers .now)) (sym (le-ltb _ _ (c .before .before .before .before .before .before .if1 .left)))
+returns-2 c = decides (c .before .before .before) (c .before .verdict .given .1)
 
 same-length-3 : tie.Need-same-length-3
 same-length-3 c = search needs
@@ -51,11 +70,10 @@ same-length-5 : tie.Need-same-length-5
 same-length-5 c = search needs
 
 returns-3 : tie.Need-returns-3
-unfolding run
-returns-3 c = let a = c .before .before .before .before .before .before .before .before .before .before .before .before .before .before .before .before .before .before .before .before .args in
-    ap (λ (progress : Progress). (Passed, progress)) (c .before .before .before .before .before .before .run-all .ensures)
-    ∙ ap (λ (v : Verdict). runBy v (a .events .now) (a .self, a .array .now, a .security .now, a .answers .now)) (sym (c .before .before .before .before .before .before .before .before .before .before .enum-told .given .1) ∙ c .before .before .before .before .before .before .before .before .before .before .before .before .entry-verdict .ensures)
-    ∙ ap (λ (short : Bool). runBy (cond short (Refused ShortBuffer) (firstOf (entryChecks (a .self) (a .array .now) (a .security .now)))) (a .events .now) (a .self, a .array .now, a .security .now, a .answers .now)) (sym (le-ltb _ _ (c .before .before .before .before .before .before .before .before .before .before .before .before .before .before .before .if1 .left)))
+returns-3 c =
+    let handed-back = c .before .before .before in let ran = handed-back .before .before .before in
+    let lent = ran .before .before .before in let told = lent .before in
+    ap (λ (progress : Progress). (Passed, progress)) (ran .run-all .ensures) ∙ decides (told .before .before) (told .enum-told .given .1)
 
 pub run-spec : {M : Type 1} → statement M
 run-spec =

@@ -10,6 +10,9 @@ use Rattle.bus.proofs.Bus.step.Tie as tie
 entry-verdict-requires : tie.Need-entry-verdict-requires
 entry-verdict-requires c κs = search needs
 
+abbrev entry : tie.After-entry-verdict → tie.Start
+entry c = let lent = c .before .before .before in lent .before .before
+
 enum-known-verdict : tie.Need-enum-known-verdict
 enum-known-verdict c = search needs
 
@@ -27,9 +30,10 @@ same-length-2 c = search needs
 
 returns : tie.Need-returns
 unfolding step
-returns c = let a = c .before .before .before .before .before .before .before .before .args in
+returns c =
+    let v = c .before .before .before in let a = entry v .args in
     ap (λ (v : Verdict). stepBy v (a .self) (a .array .now) (a .security .now) (a .word))
-    (sym (refused-first (entryChecks (a .self) (a .array .now) (a .security .now)) (eventChecks (a .self) (a .word)) _ (sym (c .before .before .before .entry-verdict .ensures) ∙ c .before .verdict .given .1)))
+    (sym (refused-first (entryChecks (a .self) (a .array .now) (a .security .now)) (eventChecks (a .self) (a .word)) _ (sym (v .entry-verdict .ensures) ∙ c .before .verdict .given .1)))
 
 same-length-3 : tie.Need-same-length-3
 same-length-3 c = search needs
@@ -39,10 +43,12 @@ same-length-4 c = search needs
 
 returns-2 : tie.Need-returns-2
 unfolding step event
-returns-2 c = let a = c .before .before .before .before .before .before .before .before .before .before .before .before .before .before .args in
-    c .before .before .before .before .event .ensures
+returns-2 c =
+    let handed-back = c .before .before .before in let e = handed-back .before in
+    let told = e .before .before .before in let v = told .before .before in let a = entry v .args in
+    e .event .ensures
     ∙ ap (λ (v : Verdict). stepBy v (a .self) (a .array .now) (a .security .now) (a .word))
-    (sym (passed-first (entryChecks (a .self) (a .array .now) (a .security .now)) (eventChecks (a .self) (a .word)) (sym (c .before .before .before .before .before .before .before .before .before .entry-verdict .ensures) ∙ c .before .before .before .before .before .before .before .enum-told .given .1)))
+    (sym (passed-first (entryChecks (a .self) (a .array .now) (a .security .now)) (eventChecks (a .self) (a .word)) (sym (v .entry-verdict .ensures) ∙ told .enum-told .given .1)))
 
 pub step-spec : {M : Type 1} → statement M
 step-spec =

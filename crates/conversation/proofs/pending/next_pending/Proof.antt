@@ -4,7 +4,7 @@ use mathlib.Core.Path.{_∙_, refl, sym, ap}
 use borrow.Author.Needs.{needs}
 use denote.Ref.{now}
 use lib.ListN.{length}
-use Prim.Native.Nat.{ℕ, _+_}
+use Prim.Native.Nat.{ℕ, _+_, _≤_}
 use mathlib.Core.List.{List}
 use borrow.Author.Tests.{leb-true, not-true, not-false}
 use Rattle.base.specs.Store.{patched}
@@ -26,7 +26,7 @@ same-length c = search needs
 
 returns : tie.Need-returns
 unfolding nextPending
-returns c = rw (sym (c .before .before .has-room .ensures), not-true (c .before .before .has-room .result) (c .before .if1 .taken), c .paused .ensures) refl
+returns c = let room = c .before .before .has-room in rw (← room .ensures, not-true (room .result) (c .before .if1 .taken), c .paused .ensures) refl
 
 answer-word-requires : tie.Need-answer-word-requires
 answer-word-requires c κs = search needs
@@ -34,21 +34,34 @@ answer-word-requires c κs = search needs
 printed-requires : tie.Need-printed-requires
 printed-requires c κs = search needs
 
+-- where there is room
+module _ (c : tie.Else1) where
+  abbrev entry : tie.Start
+  entry = let asked = c .before in let known = asked .before .before in known .before .before
+
+  room : entry .args .pending .written + 9 ≤ length (now (entry .args .said))
+  room = leb-true (entry .args .pending .written + 9) (length (now (entry .args .said))) (sym (c .before .has-room .ensures) ∙ not-false _ (c .if1 .left))
+
 put-requires : tie.Need-put-requires
-put-requires c κs =
-    let a = c .before .before .before .before .before .before .before .before .args in
-    leb-true (a .pending .written + 9) (length (now (a .said))) (sym (c .before .before .before .before .has-room .ensures) ∙ not-false _ (c .before .before .before .if1 .left))
+put-requires c κs = room (c .before .before .before)
 
 text-end-requires : tie.Need-text-end-requires
 text-end-requires c κs = search needs
 
+-- where the answer is in its place, from the text's end
+module _ (c : tie.After-text-end) where
+  abbrev put-there : tie.After-put
+  put-there = c .before .before .before
+
+  abbrev roomy : tie.Else1
+  roomy = let worded = put-there .before .before in worded .before .before
+
 slice-aggregate-pending-at : tie.Need-slice-aggregate-pending-at
-slice-aggregate-pending-at c = length-before (now (c .before .before .before .before .before .before .before .before .before .before .before .before .before .args .tape)) (c .before .before .before .before .before .before .before .before .before .before .before .before .before .args .filled) (c .before .text-end .ensures)
+slice-aggregate-pending-at c =
+    let a = entry (roomy (c .before)) .args in length-before (now (a .tape)) (a .filled) (c .before .text-end .ensures)
 
 add-pending-at : tie.Need-add-pending-at
-add-pending-at c =
-    let a = c .before .before .before .before .before .before .before .before .before .before .before .before .before .before .args in
-    omega (arith, leb-true (a .pending .written + 9) (length (now (a .said))) (sym (c .before .before .before .before .before .before .before .before .before .before .has-room .ensures) ∙ not-false _ (c .before .before .before .before .before .before .before .before .before .if1 .left)))
+add-pending-at c = omega (arith, room (roomy (c .before .before)))
 
 pending-at-requires : tie.Need-pending-at-requires
 pending-at-requires c κs = search needs
@@ -59,11 +72,14 @@ same-length-2 c = search needs
 returns-2 : tie.Need-returns-2
 unfolding nextPending
 returns-2 c =
-    let a = c .before .before .before .before .before .before .before .before .before .before .before .before .before .before .before .before .before .args in
-    rw (sym (c .before .before .before .before .before .before .before .before .before .before .before .before .before .has-room .ensures), not-false (c .before .before .before .before .before .before .before .before .before .before .before .before .before .has-room .result) (c .before .before .before .before .before .before .before .before .before .before .before .before .if1 .left))
-    (c .before .before .pending-at .ensures ∙ ap (λ (text : List ℕ). pendingAt text (a .pending .at) (c .before .before .before .before .before .before .before .before .put .last .1 .0) (a .pending .written + 9)) (text-before (now (a .tape)) (a .filled) (c .before .before .before .before .before .text-end .ensures))
+    let p = c .before .before in let t = p .before .before .before in let b = roomy t in let a = entry b .args in
+    let asked = b .before .has-room in let store = put-there t .put in let worded = put-there t .before .before in
+    rw (← asked .ensures, not-false (asked .result) (b .if1 .left))
+    (p .pending-at .ensures
+    ∙ ap (λ (text : List ℕ). pendingAt text (a .pending .at) (store .last .1 .0) (a .pending .written + 9)) (text-before (now (a .tape)) (a .filled) (t .text-end .ensures))
     ∙ ap (λ (said : List ℕ). pendingAt (textOn (now (a .tape)) (a .filled)) (a .pending .at) said (a .pending .written + 9))
-    (c .before .before .before .before .before .before .before .before .put .ensures ∙ ap (λ (line : List ℕ). patched (a .pending .written) line (now (a .said))) (c .before .before .before .before .before .before .before .before .before .before .printed .ensures ∙ ap (printed (a .pending .event)) (c .before .before .before .before .before .before .before .before .before .before .before .answer-word .ensures))))
+    (store .ensures
+    ∙ ap (λ (line : List ℕ). patched (a .pending .written) line (now (a .said))) (worded .printed .ensures ∙ ap (printed (a .pending .event)) (worded .before .answer-word .ensures))))
 
 pub next-pending-spec : {M : Type 1} → statement M
 next-pending-spec =

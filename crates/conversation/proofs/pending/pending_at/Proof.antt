@@ -21,10 +21,18 @@ same-length c = search needs
 
 returns : tie.Need-returns
 unfolding pendingAt
-returns c = rw (sym (c .before .before .has-room .ensures), not-true (c .before .before .has-room .result) (c .before .if1 .taken), c .paused .ensures) refl
+returns c = let room = c .before .before .has-room in rw (← room .ensures, not-true (room .result) (c .before .if1 .taken), c .paused .ensures) refl
 
 read-frame-requires : tie.Need-read-frame-requires
 read-frame-requires c κs = search needs
+
+-- where there is room, what stands there decides
+module _ (c : tie.After-read-frame) where
+  abbrev roomy : tie.Else1
+  roomy = c .before
+
+  abbrev entry : tie.Start
+  entry = let known = roomy .before .before .before in known .before .before
 
 enum-known-event : tie.Need-enum-known-event
 enum-known-event c = search needs
@@ -34,9 +42,9 @@ enum-told c = search needs
 
 pending-without-frame-requires : tie.Need-pending-without-frame-requires
 pending-without-frame-requires c κs =
-    let a = c .before .before .before .before .before .before .before .before .before .args in (
-      malformed-inside (now (a .text)) (a .at) (sym (c .before .before .before .read-frame .ensures) ∙ c .before .enum-told .given .1),
-      leb-true (a .written + 9) (length (now (a .said))) (sym (c .before .before .before .before .before .has-room .ensures) ∙ not-false _ (c .before .before .before .before .if1 .left)),
+    let f = c .before .before .before in let a = entry f .args in (
+      malformed-inside (now (a .text)) (a .at) (sym (f .read-frame .ensures) ∙ c .before .enum-told .given .1),
+      leb-true (a .written + 9) (length (now (a .said))) (sym (roomy f .before .has-room .ensures) ∙ not-false _ (roomy f .if1 .left)),
     )
 
 enum-told-2 : tie.Need-enum-told-2
@@ -51,7 +59,8 @@ same-length-2 c = search needs
 returns-2 : tie.Need-returns-2
 unfolding pendingAt
 returns-2 c =
-    rw (sym (c .before .before .before .before .before .has-room .ensures), not-false (c .before .before .before .before .before .has-room .result) (c .before .before .before .before .if1 .left), sym (c .before .before .before .read-frame .ensures), c .before .event .given .1) refl
+    let f = c .before .before .before in let room = roomy f .before .has-room in
+    rw (← room .ensures, not-false (room .result) (roomy f .if1 .left), ← f .read-frame .ensures, c .before .event .given .1) refl
 
 same-length-3 : tie.Need-same-length-3
 same-length-3 c = search needs
@@ -59,7 +68,8 @@ same-length-3 c = search needs
 returns-3 : tie.Need-returns-3
 unfolding pendingAt
 returns-3 c =
-    rw (sym (c .before .before .before .before .before .before .before .before .has-room .ensures), not-false (c .before .before .before .before .before .before .before .before .has-room .result) (c .before .before .before .before .before .before .before .if1 .left), sym (c .before .before .before .before .before .before .read-frame .ensures), c .before .before .before .before .enum-told .given .1) (c .before .before .pending-without-frame .ensures)
+    let p = c .before .before in let told = p .before .before in let f = told .before .before in let room = roomy f .before .has-room in
+    rw (← room .ensures, not-false (room .result) (roomy f .if1 .left), ← f .read-frame .ensures, told .enum-told .given .1) (p .pending-without-frame .ensures)
 
 same-length-4 : tie.Need-same-length-4
 same-length-4 c = search needs
@@ -67,7 +77,8 @@ same-length-4 c = search needs
 returns-4 : tie.Need-returns-4
 unfolding pendingAt
 returns-4 c =
-    rw (sym (c .before .before .before .before .before .has-room .ensures), not-false (c .before .before .before .before .before .has-room .result) (c .before .before .before .before .if1 .left), sym (c .before .before .before .read-frame .ensures), c .before .enum-told2 .given .1, c .paused2 .ensures) refl
+    let f = c .before .before .before in let room = roomy f .before .has-room in
+    rw (← room .ensures, not-false (room .result) (roomy f .if1 .left), ← f .read-frame .ensures, c .before .enum-told2 .given .1, c .paused2 .ensures) refl
 
 pub pending-at-spec : {M : Type 1} → statement M
 pending-at-spec =

@@ -28,16 +28,11 @@ use Rattle.decode.specs.Decode.{reaches, eventOf}
 use Rattle.decode.specs.Hearing.{hears}
 use Rattle.lineup.specs.Chips.{noChip, chipAt}
 use Rattle.lineup.proofs.Until.{until-more, until-past}
-use Rattle.line.specs.declared.Played.{Played}
-use Rattle.line.specs.Line.{arrayShare, securityShare, heard, landed, chipTakes}
+use Rattle.line.specs.Line.{arrayShare, securityShare, heard, OnLine, landed, chipTakes}
 use Rattle.line.proofs.Deaf.{deaf-stays}
 
--- the chips and what they have said so far, with both stores
-abbrev pub World : Type 0
-World = Played × List ℕ × List ℕ
-
-abbrev pub world : List Chip → Said → List ℕ → List ℕ → World
-world chips said array security = (record { chips = chips; said = said }, array, security)
+abbrev pub onLine : List Chip → Said → List ℕ → List ℕ → OnLine
+onLine chips said array security = (record { chips = chips; said = said }, array, security)
 
 -- where a cut share ends, from where it starts: behind its start, inside the store, and where the next one starts
 module _ (start size len at end : ℕ) (begins : at ≡ least start len) (ends : end ≡ least (at + size) len) where
@@ -78,29 +73,29 @@ module _ (addressed : Addressed) (places : List Place) (i : ℕ) (chips : List C
       → security′ ≡ patched (securityStart places i) after′ security
       → (stepped, after, after′) ≡ step (chipAt chips i) share share′ (eventOf addressed)
       → more ≡ heard said (stepped .said)
-      → world (set chips i (stepped .chip)) more array′ security′ ≡ chipTakes addressed places i (world chips said array security)
+      → onLine (set chips i (stepped .chip)) more array′ security′ ≡ chipTakes addressed places i (onLine chips said array security)
   chip-takes stepped array′ security′ share share′ after after′ more reached is is′ put put′ does says =
       let done : (stepped, after, after′) ≡ step (chipAt chips i) (arrayShare places i array) (securityShare places i security) (eventOf addressed) = rw (is, is′) at does in
-      first-one _ _ reached (rw (put, put′, says) (ap (landed places i (world chips said array security)) done))
+      first-one _ _ reached (rw (put, put′, says) (ap (landed places i (onLine chips said array security)) done))
 
   -- or it does not, or means nothing to the chip
   pub chip-passed-by : (reached : Bool) → reaches addressed i ≡ reached → (reached && hears (eventOf addressed) (chipAt chips i .control .phase)) ≡ false
-      → world chips said array security ≡ chipTakes addressed places i (world chips said array security)
+      → onLine chips said array security ≡ chipTakes addressed places i (onLine chips said array security)
   chip-passed-by true is deaf =
       first-one _ _ is
       (sym (
-      ap (landed places i (world chips said array security)) (deaf-stays (chipAt chips i) _ _ (eventOf addressed) deaf)
+      ap (landed places i (onLine chips said array security)) (deaf-stays (chipAt chips i) _ _ (eventOf addressed) deaf)
       ∙ rw (set-getD chips i noChip, patched-same (arrayStart places i) (figuresAt places i .array) array, patched-same (securityStart places i) (figuresAt places i .security) security) refl
       ))
   chip-passed-by false is deaf = second-one _ _ is refl
 
 -- the chips past the count, and those that the event passes by, are not moved
-module _ (addressed : Addressed) (places : List Place) (i n : ℕ) (chips : List Chip) (said : Said) (array security : List ℕ) (start : World) (so-far : world chips said array security ≡ upTo (chipTakes addressed places) (least i n) start) where
+module _ (addressed : Addressed) (places : List Place) (i n : ℕ) (chips : List Chip) (said : Said) (array security : List ℕ) (start : OnLine) (so-far : onLine chips said array security ≡ upTo (chipTakes addressed places) (least i n) start) where
   pub none-takes : (ltb i n && (reaches addressed i && hears (eventOf addressed) (chipAt chips i .control .phase))) ≡ false
-      → world chips said array security ≡ upTo (chipTakes addressed places) (least (i + 1) n) start
+      → onLine chips said array security ≡ upTo (chipTakes addressed places) (least (i + 1) n) start
   none-takes passed = go (decLt i n)
     where
-      go : Dec (i < n) → world chips said array security ≡ upTo (chipTakes addressed places) (least (i + 1) n) start
+      go : Dec (i < n) → onLine chips said array security ≡ upTo (chipTakes addressed places) (least (i + 1) n) start
       go (yes p) =
           until-more (chipTakes addressed places) n start i so-far p
           (chip-passed-by addressed places i chips said array security _ refl

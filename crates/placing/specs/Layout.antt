@@ -1,7 +1,7 @@
 -- The board that is asked for, chip by chip, and the one that the bench program plays when nobody asks for another (paper, "The transcript").
 use Prim.Native.Nat.{ℕ, _+_}
 use mathlib.Core.Bool.{cond}
-use mathlib.Core.List.{List, [], _∷_}
+use mathlib.Core.List.{[], _∷_}
 use lib.Dec.{leb}
 use lib.ListN.{replicate, set}
 use Rattle.base.specs.Least.{least}

@@ -15,7 +15,7 @@ use Rattle.control.specs.declared.Said.the-variants.{Nothing}
 use Rattle.board.specs.Shares.{figuresAt, arrayStart, securityStart}
 use Rattle.board.proofs.Laws.{placed-most}
 use Rattle.line.specs.Line.{chipTakes, play}
-use Rattle.line.proofs.Takes.{world, share-ends, share-lies, next-begins, lent, back, chip-takes, none-takes}
+use Rattle.line.proofs.Takes.{onLine, share-ends, share-lies, next-begins, lent, back, chip-takes, none-takes}
 use Rattle.base.proofs.logic.Laws.{and-left, and-right}
 use Rattle.base.proofs.Fold.{up-end}
 use borrow.Rule.Slice.PartMut.{same-len-mid}
@@ -31,7 +31,7 @@ use Rattle.line.proofs.play.Tie as tie
 
 abbrev Inv-loop : tie.InvT-loop
 Inv-loop addressed count array₀ security₀ event n next₀ said₀ at₀ from₀ i₀ array security next said at from i =
-    (world next said array security ≡ upTo (chipTakes addressed (placesOf next₀)) (least i n) (world next₀ said₀ array₀ security₀))
+    (onLine next said array security ≡ upTo (chipTakes addressed (placesOf next₀)) (least i n) (onLine next₀ said₀ array₀ security₀))
     × (at ≡ least (arrayStart (placesOf next₀) i) (length array₀))
     × (from ≡ least (securityStart (placesOf next₀) i) (length security₀))
     × (at ≤ i * 2 ^ 24)
@@ -192,8 +192,8 @@ loop-less c = omega arith
 -- (w .3 is its step; w .10 to .13, or .1 to .4 where it was passed by, are the stores, the chips and what was said)
 iterated : (c : tie.Joined1 Inv-loop μ-loop)
     → let l = head (c .before) .loop in let n = head (c .before) .before .placed .result in let a = entry (outside (c .before)) .args in
-    (world (c .if1 .next) (c .if1 .said) (c .if1 .array) (c .if1 .security)
-    ≡ upTo (chipTakes (a .addressed) (placesOf (a .chips))) (least (l .i + 1) n) (world (a .chips) Nothing (a .array .now) (a .security .now)))
+    (onLine (c .if1 .next) (c .if1 .said) (c .if1 .array) (c .if1 .security)
+    ≡ upTo (chipTakes (a .addressed) (placesOf (a .chips))) (least (l .i + 1) n) (onLine (a .chips) Nothing (a .array .now) (a .security .now)))
     × (length (c .if1 .array) ≡ length (l .array))
     × (length (c .if1 .security) ≡ length (l .security))
     × ((k : ℕ) → l .i + 1 ≤ k → chipAt (c .if1 .next) k ≡ chipAt (a .chips) k)

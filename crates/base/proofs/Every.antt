@@ -48,7 +48,7 @@ module _ {A : Type 0} (P : A → Type 0) where
   every-drop (suc n) [] all = tt
   every-drop (suc n) (x ∷ xs) all = every-drop n xs (all .1)
 
-  every-append : (xs ys : List A) → Every P xs → Every P ys → Every P (xs ++ ys)
+  pub every-append : (xs ys : List A) → Every P xs → Every P ys → Every P (xs ++ ys)
   every-append [] ys all more = more
   every-append (x ∷ xs) ys all more = (all .0, every-append xs ys (all .1) more)
 

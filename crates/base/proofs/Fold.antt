@@ -20,6 +20,12 @@ module _ {A : Type 0} (f : ℕ → A → A) where
   unfolding upTo
   up-more n a so-far iteration = rw add-one (iteration ∙ ap (f n) so-far)
 
+  -- the first iteration, taken off the front
+  pub up-first : (n : ℕ) (a : A) → upTo f (suc n) a ≡ upTo (λ (i : ℕ). f (suc i)) n (f 0 a)
+  unfolding upTo
+  up-first zero a = refl
+  up-first (suc n) a = ap (f (suc n)) (up-first n a)
+
   -- what each iteration keeps, the loop keeps
   pub up-keeps : (P : A → Type 0) → ((i : ℕ) (x : A) → P x → P (f i x)) → (n : ℕ) (a : A) → P a → P (upTo f n a)
   unfolding upTo

@@ -1,11 +1,12 @@
 -- What a state and stores that pass the entry checks are: well formed, so of one to four chips, and of the right lengths.
-use Prim.Native.Nat.{ℕ, _≤_}
+use Prim.Native.Nat.{ℕ, _+_, _<_, _≤_}
+use native.Mathlib.Omega.{arith}
 use mathlib.Core.Bool.{true, false, not, false≢true}
 use mathlib.Core.List.{List}
-use mathlib.Core.Path.{_≡_, refl, ap}
+use mathlib.Core.Path.{_≡_, _∙_, refl, ap}
 use lib.Dec.{eqb}
 use lib.ListN.{length}
-use borrow.Author.Tests.{eqb-true, not-false}
+use borrow.Author.Tests.{eqb-true, leb-false, not-false}
 use Rattle.base.proofs.logic.Laws.{and-left, or-none}
 use Rattle.refusal.specs.declared.Verdict.{Verdict}
 use Rattle.refusal.specs.declared.Verdict.the-variants.{Passed, Refused}
@@ -14,12 +15,12 @@ use Rattle.refusal.specs.Checks.{firstOf, isPassed}
 use Rattle.refusal.proofs.Checks.{passed-exactly-when}
 use Rattle.board.specs.Place.{placed}
 use Rattle.board.specs.Board.{wrongCount, boardChecks, boardVerdict}
-use Rattle.board.specs.Shares.{arrayStart, securityStart}
-use Rattle.board.proofs.Laws.{right-count, placed-all}
+use Rattle.board.specs.Shares.{figuresAt, arrayStart, securityStart}
+use Rattle.board.proofs.Laws.{right-count, placed-all, ends-before}
 use Rattle.lineup.specs.Chips.{placesOf}
 use Rattle.lineup.specs.Wellformed.{wellFormed}
 use Rattle.bus.specs.declared.Bus.{Bus}
-use Rattle.bus.specs.Step.{entryChecks}
+use Rattle.bus.specs.Step.{entryChecks, chipChecks}
 
 pub passed : (verdict : Verdict) → isPassed verdict ≡ true → verdict ≡ Passed
 passed Passed is = refl
@@ -53,4 +54,28 @@ entered bus array security enters =
       all-placed = placed-all (bus .count) right;
       array-fits = eqb-true _ _ (not-false _ (lengths .0));
       security-fits = eqb-true _ _ (not-false _ (lengths .1));
+    }
+
+-- and what a chip that passes 7 too is: one of them, with its share in the array store
+pub record Named (bus : Bus) (array security : List ℕ) (chip : ℕ) : Type 0 where
+  pub enters : Entered bus array security
+  pub chip-there : chip < bus .count
+  pub chip-below : chip < 4
+  pub share-fits : arrayStart (placesOf (bus .chips)) chip + figuresAt (placesOf (bus .chips)) chip .array ≤ length array
+
+pub named : (bus : Bus) (array security : List ℕ) (chip : ℕ) → firstOf (chipChecks bus array security chip) ≡ Passed → Named bus array security chip
+named bus array security chip passes =
+    let none = passed-exactly-when (chipChecks bus array security chip) .0 (ap statusOf passes) in
+    let enters = entered bus array security (rw (none .0, none .1 .0)) in
+    let there : chip < bus .count = leb-false _ _ (none .1 .1 .0) in
+    record {
+      enters = enters;
+      chip-there = there;
+      chip-below = omega (arith, enters .chips-most);
+      share-fits =
+          omega (
+            arith,
+            ends-before (λ (i : ℕ). figuresAt (placesOf (bus .chips)) i .array) chip (bus .count) there,
+            enters .array-fits ∙ ap (arrayStart (placesOf (bus .chips))) (enters .all-placed),
+          );
     }

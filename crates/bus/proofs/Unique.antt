@@ -15,6 +15,8 @@ use Rattle.bus.proofs.Bus.well_formed.Kinds as well-formed-kinds
 use Rattle.bus.proofs.Bus.well_formed.Reads as well-formed-reads
 use Rattle.bus.proofs.Bus.entry_verdict.Kinds as entry-verdict-kinds
 use Rattle.bus.proofs.Bus.entry_verdict.Reads as entry-verdict-reads
+use Rattle.bus.proofs.Bus.chip_verdict.Kinds as chip-verdict-kinds
+use Rattle.bus.proofs.Bus.chip_verdict.Reads as chip-verdict-reads
 use Rattle.bus.proofs.Bus.step.Kinds as step-kinds
 use Rattle.bus.proofs.Bus.step.Reads as step-reads
 use Rattle.bus.proofs.Bus.run.Kinds as run-kinds
@@ -31,6 +33,9 @@ well-formed-unique κs args x y at-x at-y = same
 
 pub entry-verdict-unique : Unique entry-verdict-kinds.ps entry-verdict-kinds.r entry-verdict-reads.Post
 entry-verdict-unique κs args x y at-x at-y = same
+
+pub chip-verdict-unique : Unique chip-verdict-kinds.ps chip-verdict-kinds.r chip-verdict-reads.Post
+chip-verdict-unique κs args x y at-x at-y = same
 
 pub step-unique : UniqueOutcome step-kinds.ps step-kinds.r (Stepped × List ℕ × List ℕ) (λ κs result at. (result, now (at .1 .0), now (at .1 .1 .0))) step-reads.Post
 step-unique κs args x y at-x at-y = same

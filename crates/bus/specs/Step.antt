@@ -2,10 +2,11 @@
 use Prim.Native.Nat.{ℕ}
 use mathlib.Core.Bool.{Bool, not}
 use mathlib.Core.List.{List, [], _∷_, _++_}
+use lib.Dec.{leb}
 use lib.ListN.{length}
 use Rattle.chip.specs.declared.event.Event.{Event}
 use Rattle.refusal.specs.declared.Refusal.{Refusal}
-use Rattle.refusal.specs.declared.Refusal.the-variants.{NotWellFormed, WrongLength, Clash}
+use Rattle.refusal.specs.declared.Refusal.the-variants.{NotWellFormed, WrongLength, WrongValue, Clash}
 use Rattle.refusal.specs.declared.Verdict.{Verdict}
 use Rattle.refusal.specs.declared.Verdict.the-variants.{Passed, Refused}
 use Rattle.refusal.specs.declared.Answer.the-variants as answer
@@ -26,6 +27,10 @@ entryChecks bus array security =
     (not (wellFormed (bus .count) (bus .chips)), NotWellFormed)
     ∷ (wrongLength (bus .count) (placesOf (bus .chips)) (length array) (length security), WrongLength)
     ∷ []
+
+-- then a chip that is named by its number alone
+abbrev pub chipChecks : Bus → List ℕ → List ℕ → ℕ → List (Bool × Refusal)
+chipChecks bus array security chip = entryChecks bus array security ++ ((leb (bus .count) chip, WrongValue) ∷ [])
 
 -- then the event
 abbrev pub eventChecks : Bus → ℕ → List (Bool × Refusal)

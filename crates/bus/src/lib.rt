@@ -23,7 +23,7 @@ ghost use Rattle.refusal.specs.Checks.{firstOf};
 ghost use Rattle.board.specs.Place.{placed};
 ghost use Rattle.lineup.specs.Wellformed.{wellFormed};
 ghost use Rattle.bus.specs.Setup.{empty, setUpChecks, freshChips, setUp};
-ghost use Rattle.bus.specs.Step.{entryChecks, eventChecks, played, event, step};
+ghost use Rattle.bus.specs.Step.{entryChecks, chipChecks, eventChecks, played, event, step};
 ghost use Rattle.bus.specs.Run.{runUpTo, outcome, run};
 
 pub struct Bus {
@@ -96,6 +96,23 @@ impl Bus {
             return Verdict::Refused(Refusal::WrongLength);
         }
         Verdict::Passed
+    }
+
+    // Checks 10, 5 and 7 of a chip that is named by its number alone.
+    pub fn chip_verdict(self, array: &[u8], security: &[u8], chip: usize) -> Verdict
+        ensures { λ r. ⌜ r ≡ firstOf (chipChecks self (now (array .entry)) (now (security .entry)) chip) ⌝ }
+    {
+        let verdict = self.entry_verdict(array, security);
+        match verdict {
+            Verdict::Refused(refusal) => Verdict::Refused(refusal),
+            Verdict::Passed => {
+                if self.count <= chip {
+                    Verdict::Refused(Refusal::WrongValue)
+                } else {
+                    Verdict::Passed
+                }
+            }
+        }
     }
 
     // One event. What is refused changes nothing.

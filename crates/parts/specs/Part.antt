@@ -38,6 +38,8 @@ pub record Sound (g : Geometry) : Type 0 where
   pub array-whole : g .array / g .page * g .page ≡ g .array
   pub security-whole : g .security / g .page * g .page ≡ g .security
   pub readonly-whole : g .readonly / g .page * g .page ≡ g .readonly
+  -- the array is whole rows of an Intel HEX file (request E1)
+  pub array-rows : g .array / 16 * 16 ≡ g .array
   -- sums of addresses of the array fit 32 bits
   pub array-most : g .array ≤ 2 ^ 24
   -- a security register is its read-only half and its ID page

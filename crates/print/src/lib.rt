@@ -5,7 +5,7 @@ use transcript::digit;
 use transcript::frame::LF;
 ghost use mathlib.Core.Path.{_≡_};
 ghost use Prim.Native.Nat.{_<_};
-ghost use Rattle.print.specs.Print.{digitText, printed, closing};
+ghost use Rattle.print.specs.Print.{digitText, byteText, printed, closing};
 
 // How many bytes an event and its answer have as text.
 pub const PRINTED_BYTES: usize = 9;
@@ -29,6 +29,16 @@ fn digit_text(value: u16) -> u8
     } else {
         b'A' - LETTERS + value
     }
+}
+
+// How many digits a byte has.
+pub const BYTE_DIGITS: usize = 2;
+
+pub fn byte_text(byte: u8) -> [u8; BYTE_DIGITS]
+    ensures { λ r. ⌜ r ≡ byteText byte ⌝ }
+{
+    let value = byte as u16;
+    [digit_text(value / DIGITS), digit_text(value % DIGITS)]
 }
 
 pub fn printed(event: u16, answer: u16) -> [u8; PRINTED_BYTES]

@@ -10,7 +10,7 @@ use lib.Dec.{eqb}
 use borrow.Author.Tests.{eqb-true, eq-eqb}
 use Rattle.base.proofs.logic.Laws.{and-left, and-right}
 use Rattle.refusal.specs.declared.Refusal.{Refusal}
-use Rattle.refusal.specs.declared.Refusal.the-variants.{WrongCount, UnknownPart, StrapOutside, SharedAddress, WrongLength, UnknownKind, WrongValue, Clash, NotWellFormed, ShortBuffer}
+use Rattle.refusal.specs.declared.Refusal.the-variants.{WrongCount, UnknownPart, StrapOutside, SharedAddress, WrongLength, UnknownKind, WrongValue, Clash, NotWellFormed, ShortBuffer, ShortText, BadRecord, WrongSum, UnknownType, PastArray, NoEnd}
 use Rattle.refusal.specs.declared.Verdict.{Verdict}
 use Rattle.refusal.specs.declared.Verdict.the-variants.{Passed, Refused}
 use Rattle.refusal.specs.Refusal.{numberOf, statusOf}
@@ -50,6 +50,12 @@ number-some WrongValue = omega arith
 number-some Clash = omega arith
 number-some NotWellFormed = omega arith
 number-some ShortBuffer = omega arith
+number-some ShortText = omega arith
+number-some BadRecord = omega arith
+number-some WrongSum = omega arith
+number-some UnknownType = omega arith
+number-some PastArray = omega arith
+number-some NoEnd = omega arith
 
 -- so a verdict whose status is 00 has passed
 pub status-passed : (verdict : Verdict) → statusOf verdict ≡ 0 → verdict ≡ Passed
@@ -131,3 +137,10 @@ passed-first (check ∷ checks) later is = go (check .0) (passed-first checks la
         → cond fails (Refused (check .1)) (firstOf checks) ≡ Passed → cond fails (Refused (check .1)) (firstOf (checks ++ later)) ≡ firstOf later
     go true rest now = absurd (false≢true (ap isPassed now))
     go false rest now = rest now
+
+pub passed-before : (checks later : Checks) → firstOf (checks ++ later) ≡ Passed → firstOf checks ≡ Passed
+passed-before checks later is = go (firstOf checks) refl
+  where
+    go : (verdict : Verdict) → firstOf checks ≡ verdict → verdict ≡ Passed
+    go Passed now = refl
+    go (Refused refusal) now = absurd (false≢true (ap isPassed (sym (refused-first checks later refusal now) ∙ is)))

@@ -3,7 +3,7 @@ ghost use mathlib.Core.Path.{_≡_};
 ghost use Rattle.refusal.specs.Refusal.{numberOf, statusOf, answerWord};
 ghost use Rattle.refusal.specs.Checks.{isPassed};
 
-// In the order of the paper's table. Number 9, a malformed line, is the transcript's.
+// In the order of the paper's table, then of the requests. Number 9, a malformed line, is the transcript's.
 pub enum Refusal {
     // No chips, or more than four.
     WrongCount,
@@ -23,6 +23,16 @@ pub enum Refusal {
     NotWellFormed,
     // An answer buffer shorter than the event list.
     ShortBuffer,
+    // A text buffer shorter than the text of an image (request E1, as all that follow).
+    ShortText,
+    // A bad digit or length in a record.
+    BadRecord,
+    WrongSum,
+    UnknownType,
+    // A record names an address past the array.
+    PastArray,
+    // No end record, or text after it.
+    NoEnd,
 }
 
 // What an operation's checks say.
@@ -51,6 +61,12 @@ pub fn number_of(refusal: Refusal) -> u8
         Refusal::Clash => 8,
         Refusal::NotWellFormed => 10,
         Refusal::ShortBuffer => 11,
+        Refusal::ShortText => 19,
+        Refusal::BadRecord => 20,
+        Refusal::WrongSum => 21,
+        Refusal::UnknownType => 22,
+        Refusal::PastArray => 23,
+        Refusal::NoEnd => 24,
     }
 }
 

@@ -20,6 +20,7 @@ pub mod Acknowledged
 pub mod Undisturbed
 pub mod Ran
 pub mod Setup
+pub mod Loaded
 mod Computing
 pub mod Examples
 pub mod Accepted

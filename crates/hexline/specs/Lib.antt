@@ -1,0 +1,4 @@
+pub mod Digit
+pub mod Fields
+pub mod Checks
+pub mod Writing

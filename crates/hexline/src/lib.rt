@@ -1,0 +1,4 @@
+pub mod checks;
+pub mod digit;
+pub mod fields;
+pub mod writing;

@@ -1,0 +1,10 @@
+pub mod Back
+pub mod Calls
+pub mod Exactly
+pub mod Loads
+pub mod Others
+pub mod Refused
+pub mod Saved
+pub mod Sides
+pub mod Text
+pub mod Unique

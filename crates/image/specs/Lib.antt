@@ -1,0 +1,5 @@
+pub mod Reading
+pub mod Storing
+pub mod Load
+pub mod Rows
+pub mod Save

@@ -2,6 +2,7 @@
 
 use crate::board::{self, Place, Refusal};
 use crate::chip::{Chip, Phase, NOTHING};
+use crate::hex::{self, Fault};
 
 /// Event kinds.
 pub const START: u8 = 0x01;
@@ -55,6 +56,16 @@ impl Bus {
     /// The chips, in order.
     pub fn chips(&self) -> &[Chip] {
         &self.chips
+    }
+
+    /// Loads a text into the array of a chip that is there. "Loading is no bus event", and "protection does not apply".
+    pub fn load(&mut self, chip: usize, text: &[u8]) -> Result<(), Fault> {
+        hex::load(text, self.chips[chip].array_mut())
+    }
+
+    /// The array of a chip that is there, as text.
+    pub fn saved(&self, chip: usize) -> Vec<u8> {
+        hex::save(self.chips[chip].array())
     }
 
     /// Plays one event.

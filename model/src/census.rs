@@ -3,26 +3,98 @@
 use crate::bus::{Bus, DONE, READ, SEND, STOP};
 use crate::chip::{Phase, Sends, Takes, Target, NOTHING};
 use crate::generate;
+use crate::images::{self, ImageRun};
+use crate::program::Told;
 use crate::transcript;
 use std::collections::BTreeMap;
 
-/// Plays so many runs and prints how often each thing came.
+/// No line of a tally is longer.
+const WIDTH: usize = 120;
+
+/// Plays so many runs of each sort and prints how often each thing came.
 pub fn census(runs: u64) {
     let mut counts = BTreeMap::new();
     (0..runs).for_each(|seed| count_run(seed, &mut counts));
     for (what, count) in counts {
         println!("{count:9} {what}");
     }
+    let mut tally = Tally::default();
+    for seed in 0..runs {
+        let run = images::run(seed);
+        tally.add(&run, &images::outcome(&run.run).told);
+    }
+    for (group, counts) in tally.0 {
+        for (what, count) in counts {
+            println!("{count:9} {group}: {what}");
+        }
+    }
+}
+
+/// How often each thing came in runs with images, by groups.
+#[derive(Default)]
+pub struct Tally(BTreeMap<&'static str, BTreeMap<String, u64>>);
+
+impl Tally {
+    fn count(&mut self, group: &'static str, what: impl ToString) {
+        *self.0.entry(group).or_default().entry(what.to_string()).or_default() += 1;
+    }
+
+    /// Counts the texts of a run up to the one that is refused; those behind it are never read.
+    pub fn add(&mut self, ImageRun { run, texts }: &ImageRun, told: &Told) {
+        let (read, number) = match told {
+            Told::Refused { place, fault, .. } => (place + 1, Some(fault.reason as u8)),
+            Told::NoChip { .. } => return self.count("boards", "without the chip"),
+            Told::Nothing if Bus::set_up(&run.asked().board).is_err() => return self.count("boards", "refused"),
+            Told::Nothing => (texts.len(), None),
+        };
+        self.count("boards", format!("of {} chips", run.asked().board.len()));
+        for (place, text) in texts[..read].iter().enumerate() {
+            let came = match number.filter(|_| place + 1 == read) {
+                Some(number) => format!("refused with {number}"),
+                None => "loaded".to_string(),
+            };
+            self.count("texts", &came);
+            text.shapes.iter().for_each(|shape| self.count("shapes", shape));
+            match text.faults[..] {
+                [] => {}
+                [fault] => self.count("one fault", format!("{fault}, {came}")),
+                [first, second, ..] => {
+                    self.count("two faults", &came);
+                    self.count("faults", first);
+                    self.count("faults", second);
+                    continue;
+                }
+            }
+            text.faults.iter().for_each(|fault| self.count("faults", fault));
+        }
+    }
+
+    /// Prints a group in a few lines.
+    pub fn print(&self, group: &str) {
+        let mut line = format!("{group}:");
+        let counts = self.0.get(group).into_iter().flatten();
+        for (place, (what, count)) in counts.enumerate() {
+            let next = format!("{}{what} {count}", if place == 0 { " " } else { ", " });
+            if line.chars().count() + next.chars().count() > WIDTH {
+                println!("{line},");
+                line = format!("  {what} {count}");
+            } else {
+                line += &next;
+            }
+        }
+        println!("{line}");
+    }
 }
 
 fn count_run(seed: u64, counts: &mut BTreeMap<String, u64>) {
     let mut count = |what: String| *counts.entry(what).or_default() += 1;
     let run = generate::run(seed);
-    let mut bus = match Bus::set_up(&run.board) {
+    let board = run.asked().board;
+    let mut bus = match Bus::set_up(&board) {
         Ok(bus) => bus,
         Err(refusal) => return count(format!("board: refused with {}", refusal as u8)),
     };
-    count(format!("board: {} chips", run.board.len()));
+    count(format!("board: {} chips", board.len()));
     let mut events = 0;
     for event in transcript::events(&run.transcript) {
         let before: Vec<Phase> = bus.chips().iter().map(|chip| chip.phase()).collect();

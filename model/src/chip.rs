@@ -145,6 +145,15 @@ impl Chip {
         self.phase
     }
 
+    /// The array, from outside the line (request E1).
+    pub fn array(&self) -> &[u8] {
+        &self.array
+    }
+
+    pub fn array_mut(&mut self) -> &mut [u8] {
+        &mut self.array
+    }
+
     /// Paper, Start.
     pub fn start(&mut self) {
         if self.phase != Phase::Busy {

@@ -1,14 +1,20 @@
-//! Plays runs to another bench and compares its answers with the model's.
+//! Plays runs to another bench, and compares its answers, what it tells and the files it leaves with the model's.
 
+use crate::census::Tally;
 use crate::generate::{self, Run};
+use crate::images::{self, Outcome};
+use crate::program::{Folder, Told};
 use crate::rng::Rng;
-use crate::transcript;
+use std::fs;
 use std::io::{self, Read, Write};
-use std::process::{Child, ChildStdin, ChildStdout, Command, ExitStatus, Stdio};
+use std::path::{Path, PathBuf};
+use std::process::{Child, ChildStdin, Command, ExitStatus, Stdio};
 use std::sync::mpsc;
 use std::thread;
 use std::time::{Duration, Instant};
 
+/// So many runs with images for each transcript.
+pub const IMAGE_RUNS: u64 = 4;
 /// A bench that takes longer is killed.
 const LONGEST: Duration = Duration::from_secs(60);
 /// After so many runs that hung or did not start, the others are not played.
@@ -38,75 +44,189 @@ enum Failure {
     Hung,
     Crashed(ExitStatus),
     Differs(Difference, ExitStatus),
+    Told { expected: String, came: String },
+    File(String, FileFault),
 }
 
-/// The first line at which two outputs differ, counted from 1.
+/// What is wrong with a file.
+enum FileFault {
+    Missing,
+    NotExpected,
+    Differs(Difference),
+}
+
+/// The first line at which two texts differ, counted from 1.
 struct Difference {
     line: usize,
     expected: String,
     came: String,
 }
 
-/// Plays `runs` runs and reports on them; how many passed and failed.
+/// What one run plays: a transcript, or images, and the seed of it.
+#[derive(Clone, Copy)]
+enum Sort {
+    Transcript(u64),
+    Images(u64),
+}
+
+/// Plays `runs` transcripts, and some images with each, and reports on them; how many passed and failed.
 pub fn compare(bench: &str, runs: u64, first_seed: u64) -> (u64, u64) {
+    let player = match Player::new(bench) {
+        Ok(player) => player,
+        Err(error) => {
+            println!("no folder for images: {error}");
+            return (0, runs * (1 + IMAGE_RUNS));
+        }
+    };
+    let mut tally = Tally::default();
     let mut passed = 0;
     let mut stuck = 0;
-    for number in 0..runs {
-        let seed = first_seed.wrapping_add(number);
-        let run = generate::run(seed);
-        let Err(failure) = play(bench, seed, &run) else {
+    let seeds = (0..runs).map(|number| first_seed.wrapping_add(number));
+    let images = |seed: u64| (0..IMAGE_RUNS).map(move |place| seed.wrapping_mul(IMAGE_RUNS).wrapping_add(place));
+    let sorts = |seed| std::iter::once(Sort::Transcript(seed)).chain(images(seed).map(Sort::Images));
+    for (number, sort) in (1..).zip(seeds.flat_map(sorts)) {
+        let (run, expected) = made(sort, &mut tally);
+        let Err(failure) = player.play(sort, &run, &expected) else {
             passed += 1;
             continue;
         };
-        report(bench, seed, &run, &failure);
+        report(&player, sort, &run, &failure);
         stuck += usize::from(matches!(failure, Failure::Hung | Failure::NotStarted(_)));
-        let unplayed = runs - number - 1;
+        let unplayed = runs * (1 + IMAGE_RUNS) - number;
         if stuck == MOST_STUCK && unplayed > 0 {
             println!("{MOST_STUCK} runs hung or did not start: {unplayed} more are not played and count as failed");
             break;
         }
     }
-    (passed, runs - passed)
+    println!("{runs} transcripts, and {} runs with images", runs * IMAGE_RUNS);
+    ["boards", "texts", "shapes", "faults"].iter().for_each(|group| tally.print(group));
+    (passed, runs * (1 + IMAGE_RUNS) - passed)
+}
+
+/// A run, and what the model makes of it.
+fn made(sort: Sort, tally: &mut Tally) -> (Run, Outcome) {
+    match sort {
+        Sort::Transcript(seed) => {
+            let run = generate::run(seed);
+            let expected = images::outcome(&run);
+            (run, expected)
+        }
+        Sort::Images(seed) => {
+            let images = images::run(seed);
+            let expected = images::outcome(&images.run);
+            tally.add(&images, &expected.told);
+            (images.run, expected)
+        }
+    }
 }
 
 /// Says what failed, and how to play it again.
-fn report(bench: &str, seed: u64, run: &Run, failure: &Failure) {
+fn report(player: &Player, sort: Sort, run: &Run, failure: &Failure) {
+    let bench = player.bench.display();
     let words = run.words.join(" ");
-    println!("seed {seed}, board {}:", if words.is_empty() { "without words" } else { &words });
+    let shown = if words.is_empty() { "none" } else { &words };
+    match sort {
+        Sort::Transcript(seed) => println!("seed {seed}, words: {shown}"),
+        Sort::Images(seed) => println!("images of seed {seed}, words: {shown}"),
+    }
+    let differs = |what: &str, Difference { line, expected, came }: &Difference| {
+        println!("  line {line} of {what} differs: expected {expected}, came {came}");
+    };
     match failure {
         Failure::NotStarted(error) => println!("  {bench} cannot be started: {error}"),
         Failure::Hung => println!("  {bench} took longer than {} s and was killed", LONGEST.as_secs()),
         Failure::Crashed(status) => println!("  {bench} crashed or failed: {status}"),
-        Failure::Differs(Difference { line, expected, came }, status) => {
-            println!("  line {line} differs: expected {expected}, came {came} ({status})");
+        Failure::Differs(difference, status) => differs(&format!("the answers ({status})"), difference),
+        Failure::Told { expected, came } => {
+            println!("  standard error differs: expected {expected:?} (the reason's words are free), came {came:?}");
+        }
+        Failure::File(name, FileFault::Missing) => println!("  the file {name} is not there"),
+        Failure::File(name, FileFault::NotExpected) => println!("  the file {name} is there and should not be"),
+        Failure::File(name, FileFault::Differs(difference)) => differs(&format!("the file {name}"), difference),
+    }
+    let program = std::env::current_exe().unwrap_or_default();
+    let program = program.display();
+    match sort {
+        Sort::Transcript(seed) => {
+            println!("  again: {program} generate {seed} | {bench} {words}");
+            println!("  model: {program} generate {seed} | {program} play {words}");
+        }
+        Sort::Images(seed) => {
+            println!("  again: {program} images {seed} FOLDER, and in FOLDER: sh run {bench}");
+            println!("  model: the same with: sh run {program} play");
         }
     }
-    let program = std::env::args().next().unwrap_or_default();
-    println!("  again: {program} generate {seed} | {bench} {words}");
-    println!("  model: {program} generate {seed} | {program} play {words}");
 }
 
-/// Plays one run to the bench.
-fn play(bench: &str, seed: u64, run: &Run) -> Result<(), Failure> {
-    let mut expected = Vec::new();
-    transcript::play(&run.board, &run.transcript[..], &mut expected).expect("memory takes every answer");
-    let mut command = Command::new(bench);
-    command.args(&run.words).stdin(Stdio::piped()).stdout(Stdio::piped());
-    let mut child = command.spawn().map_err(Failure::NotStarted)?;
-    let deadline = Instant::now() + LONGEST;
-    let input = child.stdin.take().expect("a pipe was asked for");
-    let output = child.stdout.take().expect("a pipe was asked for");
-    let transcript = run.transcript.clone();
-    thread::spawn(move || feed(seed, input, &transcript));
-    let came = collect(output, expected.len() as u64 + EXTRA_OUTPUT, deadline);
-    let status = came.is_some().then(|| wait(&mut child, deadline)).flatten();
-    let (Some(came), Some(status)) = (came, status) else {
-        // It may have ended by itself just now; either way it is gone afterwards.
-        let _ = child.kill();
-        let _ = child.wait();
-        return Err(Failure::Hung);
-    };
-    judge(&expected, &came, status)
+/// A bench, and a folder to play in.
+struct Player {
+    bench: PathBuf,
+    room: PathBuf,
+}
+
+impl Drop for Player {
+    fn drop(&mut self) {
+        let _ = fs::remove_dir_all(&self.room);
+    }
+}
+
+impl Player {
+    fn new(bench: &str) -> io::Result<Player> {
+        // It is run in another folder; a name without a slash is looked for on the PATH.
+        let bench = if bench.contains('/') { std::path::absolute(bench)? } else { bench.into() };
+        let room = std::env::temp_dir().join(format!("compare.{}", std::process::id()));
+        fs::create_dir(&room)?;
+        Ok(Player { bench, room })
+    }
+
+    /// Plays one run to the bench, in a folder with its files.
+    fn play(&self, sort: Sort, run: &Run, expected: &Outcome) -> Result<(), Failure> {
+        let (Sort::Transcript(seed) | Sort::Images(seed)) = sort;
+        let folder = self.room.join("run");
+        fill(&folder, &run.files).map_err(Failure::NotStarted)?;
+        let mut command = Command::new(&self.bench);
+        command.args(&run.words).current_dir(&folder);
+        command.stdin(Stdio::piped()).stdout(Stdio::piped()).stderr(Stdio::piped());
+        let mut child = command.spawn().map_err(Failure::NotStarted)?;
+        let deadline = Instant::now() + LONGEST;
+        let input = child.stdin.take().expect("a pipe was asked for");
+        let output = child.stdout.take().expect("a pipe was asked for");
+        let told = child.stderr.take().expect("a pipe was asked for");
+        let transcript = run.transcript.clone();
+        thread::spawn(move || feed(seed, input, &transcript));
+        let told = collect(told, EXTRA_OUTPUT);
+        let output = collect(output, expected.output.len() as u64 + EXTRA_OUTPUT);
+        let (came, told) = (by(deadline, &output), by(deadline, &told));
+        let status = came.is_some().then(|| wait(&mut child, deadline)).flatten();
+        let (Some(came), Some(told), Some(status)) = (came, told, status) else {
+            // It may have ended by itself just now; either way it is gone afterwards.
+            let _ = child.kill();
+            let _ = child.wait();
+            return Err(Failure::Hung);
+        };
+        judge(&expected.output, &came, status)?;
+        judge_told(&expected.told, &String::from_utf8_lossy(&told))?;
+        judge_files(&expected.files, &files_in(&folder).map_err(Failure::NotStarted)?)
+    }
+}
+
+/// Makes a folder with these files and no others.
+fn fill(folder: &Path, files: &Folder) -> io::Result<()> {
+    if folder.exists() {
+        fs::remove_dir_all(folder)?;
+    }
+    fs::create_dir(folder)?;
+    files.iter().try_for_each(|(name, text)| fs::write(folder.join(name), text))
+}
+
+/// The files that are in a folder.
+fn files_in(folder: &Path) -> io::Result<Folder> {
+    let mut files = Folder::new();
+    for entry in fs::read_dir(folder)? {
+        let entry = entry?;
+        files.insert(entry.file_name().to_string_lossy().into_owned(), fs::read(entry.path())?);
+    }
+    Ok(files)
 }
 
 /// Writes the transcript: at once, after a few bytes of it, or in crumbs, so that blocks end anywhere in a line.
@@ -131,15 +251,20 @@ fn feed(seed: u64, mut input: ChildStdin, transcript: &[u8]) {
     give(&mut rest, transcript.len(), Duration::ZERO);
 }
 
-/// Reads the output to its end, or up to a limit; None when it has not ended in time.
-fn collect(output: ChildStdout, limit: u64, deadline: Instant) -> Option<Vec<u8>> {
+/// Reads a pipe to its end, or up to a limit, while others are read.
+fn collect(pipe: impl Read + Send + 'static, limit: u64) -> mpsc::Receiver<Vec<u8>> {
     let (sender, receiver) = mpsc::channel();
     thread::spawn(move || {
         let mut came = Vec::new();
-        let _ = output.take(limit).read_to_end(&mut came);
+        let _ = pipe.take(limit).read_to_end(&mut came);
         let _ = sender.send(came);
     });
-    receiver.recv_timeout(deadline.saturating_duration_since(Instant::now())).ok()
+    receiver
+}
+
+/// What was read from a pipe; None when it has not ended in time.
+fn by(deadline: Instant, pipe: &mpsc::Receiver<Vec<u8>>) -> Option<Vec<u8>> {
+    pipe.recv_timeout(deadline.saturating_duration_since(Instant::now())).ok()
 }
 
 /// Waits for the end of the bench; None when it has not ended in time.
@@ -171,7 +296,45 @@ fn judge(expected: &[u8], came: &[u8], status: ExitStatus) -> Result<(), Failure
     Ok(())
 }
 
-/// Finds the difference of two outputs that differ. Lines keep their ends, so that a missing LF shows.
+/// Compares standard error: nothing, or a line with the file, the line at fault and the number. What it says of a chip
+/// that is not there is left open.
+fn judge_told(expected: &Told, came: &str) -> Result<(), Failure> {
+    let same = match expected {
+        Told::Nothing => came.is_empty(),
+        Told::NoChip { .. } => true,
+        Told::Refused { file, fault, .. } => {
+            let begins = format!("bench: {file}: line {}: ", fault.line);
+            let ends = format!(" ({})\n", fault.reason as u8);
+            came.len() >= begins.len() + ends.len()
+                && came.starts_with(&begins)
+                && came.ends_with(&ends)
+                && came.matches('\n').count() == 1
+        }
+    };
+    let differs = || Failure::Told { expected: expected.to_string(), came: came.to_string() };
+    same.then_some(()).ok_or_else(differs)
+}
+
+/// Compares the files that should be there afterwards with those that are.
+fn judge_files(expected: &Folder, came: &Folder) -> Result<(), Failure> {
+    let wrong = |name: &String, fault| Err(Failure::File(name.clone(), fault));
+    for (name, text) in expected {
+        match came.get(name) {
+            None => return wrong(name, FileFault::Missing),
+            Some(other) if other != text => {
+                let differs = difference(&String::from_utf8_lossy(text), &String::from_utf8_lossy(other));
+                return wrong(name, FileFault::Differs(differs));
+            }
+            Some(_) => {}
+        }
+    }
+    match came.keys().find(|name| !expected.contains_key(*name)) {
+        Some(name) => wrong(name, FileFault::NotExpected),
+        None => Ok(()),
+    }
+}
+
+/// Finds the difference of two texts that differ. Lines keep their ends, so that a missing LF shows.
 fn difference(expected: &str, came: &str) -> Difference {
     let shown = |line: Option<&str>| line.map_or("nothing".to_string(), |line| format!("{line:?}"));
     let mut expected = expected.split_inclusive('\n');

@@ -1,10 +1,13 @@
 //! Random boards and transcripts, biased to what matters. A run is its seed: the same seed, the same run.
 
 use crate::board::{self, Place, Refusal, MOST_CHIPS};
+use crate::bus::Event;
 use crate::part::{Part, CS32_NUMBER, CSM01_NUMBER, LINE_ADDRESSES};
+use crate::program::Folder;
 use crate::rng::Rng;
 use crate::script;
 use crate::transcript::{digit, event_line};
+use crate::words::{self, Words};
 
 /// Events in a transcript.
 pub const EVENTS: usize = 5_000;
@@ -13,8 +16,8 @@ const REFUSED_PERCENT: usize = 4;
 const PAPERS_BOARD_PERCENT: usize = 5;
 const MALFORMED_PERCENT: usize = 40;
 const EMPTY_PERCENT: usize = 1;
-/// A malformed line comes after so many events at the earliest.
-const EARLIEST_MALFORMED: usize = EVENTS / 2;
+/// A malformed line comes in the second half.
+const EARLIEST_PART: usize = 2;
 /// In so many of a hundred places on a refused board a digit is any digit.
 const WILD_PERCENT: usize = 25;
 const FEWEST_TO_CLASH: usize = 2;
@@ -27,31 +30,42 @@ const ALMOST_DIGIT_PERCENT: usize = 70;
 
 /// What one comparison plays.
 pub struct Run {
-    /// The words `PART:STRAP`; none for the paper's board.
+    /// The words of the command line; none for the paper's board.
     pub words: Vec<String>,
-    /// The same as a board.
-    pub board: Vec<Place>,
+    /// The files that are there before.
+    pub files: Folder,
     /// The transcript, which may end in the middle of a line.
     pub transcript: Vec<u8>,
 }
 
-/// The run with this seed.
+impl Run {
+    /// What the words ask for.
+    pub fn asked(&self) -> Words {
+        words::parse(&self.words).expect("words of a run")
+    }
+}
+
+/// The run with this seed: a transcript, and no files.
 pub fn run(seed: u64) -> Run {
     let mut rng = Rng::new(seed);
-    let words = words(&mut rng);
+    let words = board_words(&mut rng);
     let board = board::parse(&words).expect("words of a board");
-    let events = script::events(&mut rng, &board, EVENTS);
-    let mut lines: Vec<Vec<u8>> = events.into_iter().map(|event| event_line(event).into_bytes()).collect();
+    let mut lines = event_lines(script::events(&mut rng, &board, EVENTS));
     if rng.percent(EMPTY_PERCENT) {
         lines.clear();
     } else if rng.percent(MALFORMED_PERCENT) {
         spoil(&mut rng, &mut lines);
     }
-    Run { words, board, transcript: lines.concat() }
+    Run { words, files: Folder::new(), transcript: lines.concat() }
+}
+
+/// The lines of events.
+pub fn event_lines(events: Vec<Event>) -> Vec<Vec<u8>> {
+    events.into_iter().map(|event| event_line(event).into_bytes()).collect()
 }
 
 /// The words of a board: mostly one that set-up takes.
-fn words(rng: &mut Rng) -> Vec<String> {
+pub fn board_words(rng: &mut Rng) -> Vec<String> {
     if rng.percent(PAPERS_BOARD_PERCENT) {
         return Vec::new();
     }
@@ -107,8 +121,8 @@ const FAULTS: [(usize, Fault); 8] = [
 ];
 
 /// Makes one late line malformed. Lines after it stay, but after the missing line end there are none.
-fn spoil(rng: &mut Rng, lines: &mut Vec<Vec<u8>>) {
-    let at = rng.between(EARLIEST_MALFORMED, lines.len() - 1);
+pub fn spoil(rng: &mut Rng, lines: &mut Vec<Vec<u8>>) {
+    let at = rng.between(lines.len() / EARLIEST_PART, lines.len() - 1);
     let fault = rng.weighted(&FAULTS);
     if matches!(fault, Fault::NoLineEnd) {
         lines.truncate(at + 1);
@@ -161,7 +175,7 @@ mod tests {
 
     #[test]
     fn boards_of_every_size_and_every_refusal_come() {
-        let boards: Vec<_> = (0..SEEDS).map(|seed| run(seed).board).collect();
+        let boards: Vec<_> = (0..SEEDS).map(|seed| run(seed).asked().board).collect();
         for count in 1..=MOST_CHIPS {
             assert!(boards.iter().any(|board| board.len() == count));
         }

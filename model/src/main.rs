@@ -6,22 +6,30 @@ mod census;
 mod chip;
 mod compare;
 mod generate;
+mod hex;
+mod images;
 mod part;
+mod program;
 mod rng;
 mod script;
+mod texts;
 mod transcript;
 mod turns;
+mod words;
 
 use std::io::{self, BufReader, BufWriter, Write};
+use std::path::Path;
 use std::process::ExitCode;
 
-const USAGE: &str = "usage: model play [PART:STRAP ..] | generate SEED | compare BENCH RUNS [FIRST_SEED] | census RUNS";
+const USAGE: &str = "usage: model play [PART:STRAP ..] [load:K:FILE ..] [save:K:FILE ..]
+     | generate SEED | images SEED FOLDER | compare BENCH RUNS [FIRST_SEED] | census RUNS";
 const BAD_ARGUMENTS: u8 = 2;
 
 /// What the command line asks for.
 enum Task {
-    Play(Vec<board::Place>),
+    Play(words::Words),
     Generate(u64),
+    Images { seed: u64, folder: String },
     Compare { bench: String, runs: u64, first_seed: u64 },
     Census(u64),
 }
@@ -32,8 +40,9 @@ fn task(words: &[String]) -> Option<Task> {
     let number = |word: &String| word.bytes().all(|byte| byte.is_ascii_digit()).then(|| word.parse().ok())?;
     let runs = |word: &String| number(word).filter(|runs| *runs > 0);
     Some(match (command.as_str(), rest) {
-        ("play", words) => Task::Play(board::parse(words)?),
+        ("play", words) => Task::Play(words::parse(words)?),
         ("generate", [seed]) => Task::Generate(number(seed)?),
+        ("images", [seed, folder]) => Task::Images { seed: number(seed)?, folder: folder.clone() },
         ("compare", [bench, count]) => Task::Compare { bench: bench.clone(), runs: runs(count)?, first_seed: 0 },
         ("compare", [bench, count, seed]) => {
             Task::Compare { bench: bench.clone(), runs: runs(count)?, first_seed: number(seed)? }
@@ -50,11 +59,28 @@ fn generate(seed: u64) -> io::Result<()> {
     io::stdout().write_all(&run.transcript)
 }
 
-/// Answers standard input on standard output.
-fn play(board: &[board::Place]) -> io::Result<()> {
+/// Puts the files of a run with images into a folder, with its transcript and a script that plays it to a bench.
+fn put_images(seed: u64, folder: &str) -> io::Result<()> {
+    let run = images::run(seed).run;
+    let folder = Path::new(folder);
+    std::fs::create_dir_all(folder)?;
+    for (name, text) in &run.files {
+        std::fs::write(folder.join(name), text)?;
+    }
+    std::fs::write(folder.join("transcript"), &run.transcript)?;
+    let words: Vec<String> = run.words.iter().map(|word| format!("'{word}'")).collect();
+    std::fs::write(folder.join("run"), format!("exec \"$@\" {} <transcript\n", words.join(" ")))
+}
+
+/// Answers standard input on standard output, with the images that the words ask for.
+fn play(words: &words::Words) -> io::Result<()> {
     let mut output = BufWriter::new(io::stdout().lock());
-    transcript::play(board, BufReader::new(io::stdin().lock()), &mut output)?;
-    output.flush()
+    let told = program::play(words, &mut program::Disk, BufReader::new(io::stdin().lock()), &mut output)?;
+    output.flush()?;
+    if told != program::Told::Nothing {
+        eprintln!("{told}");
+    }
+    Ok(())
 }
 
 fn main() -> ExitCode {
@@ -64,8 +90,9 @@ fn main() -> ExitCode {
             eprintln!("{USAGE}");
             return ExitCode::from(BAD_ARGUMENTS);
         }
-        Some(Task::Play(board)) => play(&board),
+        Some(Task::Play(words)) => play(&words),
         Some(Task::Generate(seed)) => generate(seed),
+        Some(Task::Images { seed, folder }) => put_images(seed, &folder),
         Some(Task::Compare { bench, runs, first_seed }) => {
             let (passed, failed) = compare::compare(&bench, runs, first_seed);
             println!("{passed} passed, {failed} failed");

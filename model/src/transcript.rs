@@ -1,6 +1,5 @@
 //! The transcript's two formats and the bench program (paper, "The transcript").
 
-use crate::board::Place;
 use crate::bus::{Answer, Bus, Event};
 use std::io::{self, Read, Write};
 
@@ -57,17 +56,17 @@ fn next(input: &mut impl Read) -> io::Result<Next> {
     })
 }
 
-/// Behaves as the bench program does: answers a transcript, until it ends or a line is malformed.
-pub fn play(board: &[Place], mut input: impl Read, mut output: impl Write) -> io::Result<()> {
-    let refused = |status| answer_line(NO_EVENT, Answer { status, reply: 0 });
-    let mut bus = match Bus::set_up(board) {
-        Ok(bus) => bus,
-        Err(refusal) => return output.write_all(refused(refusal as u8).as_bytes()),
-    };
+/// The line that ends a run early, with the number of a refusal.
+pub fn closing(status: u8) -> String {
+    answer_line(NO_EVENT, Answer { status, reply: 0 })
+}
+
+/// Answers a transcript, until it ends or a line is malformed.
+pub fn answer(bus: &mut Bus, mut input: impl Read, mut output: impl Write) -> io::Result<()> {
     loop {
         match next(&mut input)? {
             Next::Event(event) => output.write_all(answer_line(event, bus.step(event)).as_bytes())?,
-            Next::Malformed => return output.write_all(refused(MALFORMED).as_bytes()),
+            Next::Malformed => return output.write_all(closing(MALFORMED).as_bytes()),
             Next::End => return Ok(()),
         }
     }
@@ -80,14 +79,15 @@ pub fn events(transcript: &[u8]) -> impl Iterator<Item = Event> + '_ {
 
 #[cfg(test)]
 mod tests {
-    use super::*;
-    use crate::board;
+    use crate::program::{self, Folder};
+    use crate::words;
 
     /// Plays a transcript on the board with these words; the answers without their line ends.
     fn answers(words: &str, transcript: &str) -> Vec<String> {
         let words: Vec<String> = words.split_whitespace().map(String::from).collect();
         let mut output = Vec::new();
-        play(&board::parse(&words).expect("words"), transcript.as_bytes(), &mut output).expect("no I/O here");
+        let words = words::parse(&words).expect("words");
+        program::play(&words, &mut Folder::new(), transcript.as_bytes(), &mut output).expect("no I/O here");
         String::from_utf8(output).expect("digits").lines().map(String::from).collect()
     }
 

@@ -72,12 +72,12 @@ pub fn start() -> Event {
 }
 
 /// A byte that the host sends.
-fn send(byte: u8) -> Event {
+pub fn send(byte: u8) -> Event {
     event(SEND, byte)
 }
 
 /// An address byte.
-fn address(device_type: u8, bits: u8, read: bool) -> u8 {
+pub fn address(device_type: u8, bits: u8, read: bool) -> u8 {
     device_type << TYPE_SHIFT | bits << BITS_SHIFT | if read { READ_BIT } else { 0 }
 }
 

@@ -1,5 +1,11 @@
-// The words on the command line: none asks for the paper's board, one to four for a chip each.
+// The words on the command line. One to four that name a place each ask for a board, none for the paper's; any number ask for files.
+use asking::Asked;
+use asking::asked_by;
 use board::PLACES;
+use board::Place;
+use errands::WORD;
+use errands::blank_word;
+use errands::telling::tell_too_long;
 use libc::STDERR_FILENO;
 use placing::NamedPlace;
 use placing::layout::Board;
@@ -8,57 +14,109 @@ use placing::place_named;
 // The program's own name is the first word.
 const OWN: usize = 1;
 
-// One byte more than a word that names a place, so that a longer one is seen.
-const WORD: usize = 4;
+enum Word {
+    Chip(Place),
+    File,
+    Unknown,
+    TooLong,
+}
+
+// What is said of all words.
+pub enum Words {
+    Known,
+    Unknown,
+    TooLong,
+}
 
 pub struct Arguments {
-    pub known: bool,
+    pub words: Words,
     pub board: Board,
 }
 
-// What a word names, read into `word`.
-fn place_in(i: usize, word: &mut [u8]) -> NamedPlace {
-    let n = os::arg(i, word);
-    place_named(&word[..n])
+fn word_of(word: &[u8]) -> Word {
+    match place_named(word) {
+        NamedPlace::Named(place) => Word::Chip(place),
+        NamedPlace::Unknown => match asked_by(word) {
+            Asked::Load(_) => Word::File,
+            Asked::Save(_) => Word::File,
+            Asked::Unknown => Word::Unknown,
+        },
+    }
+}
+
+fn word_at(i: usize) -> Word {
+    let mut space = blank_word();
+    let n = os::arg(i, &mut space);
+    if os::errno() != 0 {
+        return Word::TooLong;
+    }
+    word_of(&space[..n])
+}
+
+// One chip more, if there is a place for it.
+fn with_place(arguments: Arguments, place: Place) -> Arguments {
+    let board = arguments.board;
+    if PLACES <= board.count {
+        return Arguments {
+            words: Words::Unknown,
+            board,
+        };
+    }
+    let words = arguments.words;
+    Arguments {
+        words,
+        board: board.with_chip(place),
+    }
 }
 
 // One word more.
-fn with_word(arguments: Arguments, i: usize) -> Arguments {
+fn with_word(arguments: Arguments, word: Word) -> Arguments {
     let board = arguments.board;
-    let mut word = [0u8; WORD];
-    match place_in(i, &mut word) {
-        NamedPlace::Named(place) => Arguments {
-            known: arguments.known,
-            board: board.with_chip(place),
+    match word {
+        Word::Chip(place) => with_place(arguments, place),
+        Word::File => arguments,
+        Word::Unknown => Arguments {
+            words: Words::Unknown,
+            board,
         },
-        NamedPlace::Unknown => Arguments {
-            known: false,
+        Word::TooLong => Arguments {
+            words: Words::TooLong,
             board,
         },
     }
 }
 
+// The board that is asked for, or the paper's.
+fn board_of(board: Board) -> Board {
+    if board.count == 0 {
+        return Board::of_paper();
+    }
+    board
+}
+
 pub fn read_arguments() -> Arguments {
     let count = os::arg_count();
-    if count <= OWN {
-        return Arguments {
-            known: true,
-            board: Board::of_paper(),
-        };
-    }
     let mut arguments = Arguments {
-        known: count <= OWN + PLACES,
+        words: Words::Known,
         board: Board::bare(),
     };
     for i in OWN..count {
-        arguments = with_word(arguments, i);
+        arguments = with_word(arguments, word_at(i));
     }
-    arguments
+    let words = arguments.words;
+    Arguments {
+        words,
+        board: board_of(arguments.board),
+    }
 }
 
 pub fn say_expected() {
     io::write_all(
         STDERR_FILENO,
-        b"bench: expected no words, or one to four of the form PART:STRAP, a digit 0-9 A-F each, as 1:0 2:5\n",
+        b"bench: expected words of the form PART:STRAP (none, or one to four), load:K:FILE or save:K:FILE, where PART, STRAP and chip K are a digit 0-9 A-F each, as 1:0 2:5 load:0:image.hex\n",
     );
+}
+
+pub fn say_too_long() {
+    tell_too_long(b"a word", WORD);
 }

@@ -22,7 +22,9 @@ pub const END: u8 = 1;
 
 pub const UPPER: u8 = 4;
 
-// Which bytes of a record are its address, its type and its first data byte.
+// Which bytes of a record are its count, its address, its type and its first data byte.
+const COUNT: u16 = 0;
+
 const ADDRESS_HIGH: u16 = 1;
 
 const ADDRESS_LOW: u16 = 2;
@@ -54,7 +56,7 @@ pub fn byte_at(rest: &[u8], i: u16) -> u8
 pub fn count_in(rest: &[u8]) -> u8
     ensures { λ r. ⌜ r ≡ countIn (now (rest .entry)) ⌝ }
 {
-    byte_at(rest, 0)
+    byte_at(rest, COUNT)
 }
 
 pub fn address_in(rest: &[u8]) -> u16
@@ -86,7 +88,7 @@ pub fn sum_in(rest: &[u8]) -> u8
 {
     let n = bytes_in(rest);
     let mut sum: u16 = 0;
-    let mut i: u16 = 0;
+    let mut i: u16 = COUNT;
     while i < n {
         sum = (sum + byte_at(rest, i) as u16) % BYTE;
         i += 1;

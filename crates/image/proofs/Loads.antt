@@ -15,7 +15,7 @@ use Rattle.bus.proofs.Entry.{named}
 use Rattle.image.specs.Reading.{scanned, textVerdict}
 use Rattle.image.specs.Storing.{stored}
 use Rattle.image.specs.Load.{loaded, refusedAt, loadShare, withShare, inPlace, load}
-use Rattle.image.proofs.saving.Laws.{share-length}
+use Rattle.image.proofs.share.Laws.{share-length}
 use Rattle.image.proofs.Saved.{shareAt}
 
 -- how many bytes the array of the part there has

@@ -25,7 +25,7 @@ use Rattle.image.specs.Storing.{stored, storesAt, byteFor}
 use Rattle.image.specs.Load.{load}
 use Rattle.image.proofs.loading.Laws.{stored-length}
 use Rattle.image.proofs.Loads.{arraySize, Outcome, NotReached, NotTaken, Stored, outcome}
-use Rattle.image.proofs.saving.Laws.{share-length}
+use Rattle.image.proofs.share.Laws.{share-length}
 use Rattle.image.proofs.Saved.{shareAt}
 use Rattle.image.proofs.Text.{unnamed-bytes-stay, later-record-wins}
 

@@ -24,7 +24,8 @@ use Rattle.image.specs.Load.{loaded, withShare, load}
 use Rattle.image.specs.Rows.{savedText}
 use Rattle.image.specs.Save.{saveChecks, saveShare, saveBy, save}
 use Rattle.image.proofs.Back.{share-back}
-use Rattle.image.proofs.saving.Laws.{share-length, save-named, saved-share}
+use Rattle.image.proofs.share.Laws.{share-length}
+use Rattle.image.proofs.saving.Laws.{save-named, saved-share}
 
 -- the part at a place of a line
 abbrev pub partAt : Bus → ℕ → ℕ

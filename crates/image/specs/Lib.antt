@@ -1,3 +1,4 @@
+pub mod Share
 pub mod Reading
 pub mod Storing
 pub mod Load

@@ -2,3 +2,4 @@
 // not changed.
 pub mod loading;
 pub mod saving;
+mod share;

@@ -1,6 +1,6 @@
 // Loading: a text is read record by record into one chip's array, twice: once to check it whole, once to store it (request E1).
+use crate::share::share_of;
 use base::logic::and;
-use board::shares::array_start;
 use bus::Bus;
 use hexline::checks::record_verdict;
 use hexline::fields::DATA;
@@ -10,8 +10,6 @@ use hexline::fields::kind_in;
 use hexline::fields::line_size;
 use hexline::fields::put_data;
 use hexline::fields::upper_in;
-use lineup::places_of;
-use parts::part::geometry_of;
 use refusal::Refusal;
 use refusal::Verdict;
 use refusal::is_passed;
@@ -182,12 +180,10 @@ pub fn load(bus: Bus, array: &mut [u8], security: &[u8], chip: usize, text: &[u8
             line: 0,
         },
         Verdict::Passed => {
-            let chips = bus.chips;
-            let places = places_of(chips);
-            let place = places[chip];
-            let at = array_start(chip, places);
-            let end = at + geometry_of(place.part).array as usize;
-            load_share(text, &mut array[at..end])
+            let share = share_of(bus, chip);
+            let start = share.start;
+            let end = share.end;
+            load_share(text, &mut array[start..end])
         }
     }
 }

@@ -1,6 +1,6 @@
 // Saving: one chip's array as text, 16 data bytes a record (request E1).
+use crate::share::share_of;
 use base::word::BYTE;
-use board::shares::array_start;
 use bus::Bus;
 use hexline::fields::DATA;
 use hexline::fields::END;
@@ -154,12 +154,10 @@ pub fn save(bus: Bus, array: &[u8], security: &[u8], chip: usize, text: &mut [u8
             written: 0,
         },
         Verdict::Passed => {
-            let chips = bus.chips;
-            let places = places_of(chips);
-            let place = places[chip];
-            let at = array_start(chip, places);
-            let end = at + geometry_of(place.part).array as usize;
-            save_share(&array[at..end], text)
+            let share = share_of(bus, chip);
+            let start = share.start;
+            let end = share.end;
+            save_share(&array[start..end], text)
         }
     }
 }

@@ -255,12 +255,11 @@ module _ (text share₀ : List ℕ) where
   stored-to-end (n, so-far) off = ap (λ (now : Storing). now .1) so-far ∙ stored-is text share₀ n (rw so-far at off)
 
 -- a share that was lent out comes back in its place
-pub back-in-place : (places : List Place) (k : ℕ) (array : List ℕ) {at n : ℕ} {said : Loaded} {share : List ℕ} {made : Loaded × List ℕ} → at ≡ arrayStart places k
-    → length share ≡ n
+pub back-in-place : (places : List Place) (k : ℕ) (array : List ℕ) (start end : ℕ) {said : Loaded} {share : List ℕ} {made : Loaded × List ℕ} → start ≡ arrayStart places k
+    → length share ≡ end - start
     → (said, share) ≡ made
-    → (said, take at array ++ (share ++ drop (at + n - at) (drop at array))) ≡ inPlace places k array made
-back-in-place places k array {at} {n} {said} {share} start long is =
-    let count : at + n - at ≡ length share = omega arith in
-    ap (λ (m : ℕ). (said, take at array ++ (share ++ drop m (drop at array)))) count
-    ∙ ap (λ (from : ℕ). (said, patched from share array)) start
+    → (said, take start array ++ (share ++ drop (end - start) (drop start array))) ≡ inPlace places k array made
+back-in-place places k array start end {said} {share} starts long is =
+    ap (λ (n : ℕ). (said, take start array ++ (share ++ drop n (drop start array)))) (sym long)
+    ∙ ap (λ (from : ℕ). (said, patched from share array)) starts
     ∙ ap (inPlace places k array) is

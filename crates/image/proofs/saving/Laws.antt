@@ -179,17 +179,8 @@ module _ (share : List ℕ) where
         record-length endKind 0 [],
       )
 
--- the part of a store that is lent from a place to so many bytes behind it
-pub lent-is : (store : List ℕ) {at start n size : ℕ} → at ≡ start → n ≡ size → take (at + n - at) (drop at store) ≡ span start size store
-lent-is store {at} {start} {n} {size} is-start is-size =
-    let count : at + n - at ≡ size = omega arith in
-    ap (λ (m : ℕ). span at m store) count ∙ ap (λ (from : ℕ). span from size store) is-start
-
 -- a chip that passes the checks of saving has its share in the array store, and the buffer takes the text of that
 module _ (bus : Bus) (array security : List ℕ) (k : ℕ) where
-  pub share-length : Named bus array security k → length (arrayShare (placesOf (bus .chips)) k array) ≡ figuresAt (placesOf (bus .chips)) k .array
-  share-length is = span-length (arrayStart (placesOf (bus .chips)) k) (figuresAt (placesOf (bus .chips)) k .array) array (is .share-fits)
-
   module _ (buffer : List ℕ) (passes : firstOf (saveChecks bus array security k buffer) ≡ Passed) where
     abbrev last : List (Bool × Refusal)
     last = (shortText (placesOf (bus .chips)) k buffer, ShortText) ∷ []

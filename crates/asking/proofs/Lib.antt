@@ -1,0 +1,3 @@
+pub mod Openings
+pub mod Unique
+pub mod Laws

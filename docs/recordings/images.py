@@ -1,7 +1,7 @@
 #!/usr/bin/env python3
 """images.py: makes the files that the gate program `images` loads. Nothing of the bench takes part.
 
-    docs/recordings/images.py FOLDER     writes NAME, NAME.want and `list` for each of them (crates/images/data)
+    docs/recordings/images.py FOLDER     writes NAME and NAME.want of each (crates/images/data), and `list` (crates/images/args)
     docs/recordings/images.py --paper    prints the entries of docs/RECORDINGS.md
 
 Needs srec_cat, objcopy (Debian: srecord, binutils) and a python3 with intelhex (Debian: python3-intelhex).

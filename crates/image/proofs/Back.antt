@@ -25,7 +25,7 @@ use Rattle.hexline.specs.Writing.{recordText, recordSize}
 use Rattle.hexline.proofs.fields.Laws.{put-data-patched}
 use Rattle.hexline.proofs.Back.{ReadsBack, record-length, reads-back}
 use Rattle.image.specs.declared.loading.Reading.{Reading}
-use Rattle.image.specs.Reading.{readsOn, restAt, past, verdictAt, nextReading, scanned}
+use Rattle.image.specs.Reading.{readsOn, restAt, verdictAt, nextReading, scanned}
 use Rattle.image.specs.Storing.{Storing, nextStoring, storeOn, storingAfter, stored}
 use Rattle.image.specs.Load.{loaded, loadShare}
 use Rattle.image.specs.Rows.{rowStart, upperOf, upperChanges, upperText, bareRow, rowText, rowsText, endText, savedText}

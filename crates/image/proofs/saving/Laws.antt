@@ -6,7 +6,7 @@ use native.Mathlib.Omega.{arith}
 use mathlib.Core.Bool.{Bool, true, false}
 use mathlib.Core.List.{List, [], _∷_, _++_}
 use mathlib.Core.Path.{_≡_, _∙_, refl, sym, ap}
-use lib.ListN.{length, take, drop, length-append}
+use lib.ListN.{length, length-append}
 use borrow.Author.Tests.{le-leb, ltb-false, eqb-true, eqb-false, not-false, not-true}
 use Rattle.base.specs.Fold.{upTo}
 use Rattle.base.specs.Store.{span, patched}
@@ -18,7 +18,7 @@ use Rattle.refusal.specs.declared.Verdict.the-variants.{Passed}
 use Rattle.refusal.specs.Refusal.{statusOf}
 use Rattle.refusal.specs.Checks.{firstOf}
 use Rattle.refusal.proofs.Checks.{passed-exactly-when, passed-first, passed-before}
-use Rattle.board.specs.Shares.{figuresAt, arrayStart}
+use Rattle.board.specs.Shares.{figuresAt}
 use Rattle.lineup.specs.Chips.{placesOf}
 use Rattle.line.specs.Line.{arrayShare}
 use Rattle.bus.specs.declared.Bus.{Bus}

@@ -2,11 +2,10 @@
 use Prim.Native.Nat.{ℕ, _+_, _-_, _≤_}
 use native.Mathlib.Numerals.{add-one}
 use native.Mathlib.Omega.{arith}
-use mathlib.Core.List.{List, _++_}
+use mathlib.Core.List.{List}
 use mathlib.Core.Path.{_≡_, _∙_, sym, ap}
 use lib.ListN.{length, take, drop}
 use Rattle.base.specs.Fold.{upTo}
-use Rattle.base.specs.Store.{patched}
 use Rattle.base.proofs.Store.{span-length}
 use Rattle.base.proofs.number.Laws.{least-first}
 use Rattle.board.specs.declared.Place.{Place}

@@ -1,7 +1,7 @@
 #!/usr/bin/env python3
 """images.py: makes the files that the gate program `images` loads. Nothing of the bench takes part.
 
-    docs/recordings/images.py FOLDER     writes NAME and NAME.want of each (crates/images/data), and `list` (crates/images/args)
+    docs/recordings/images.py FOLDER     writes NAME, NAME.want (crates/images/data) and `list` (crates/images/args)
     docs/recordings/images.py --paper    prints the entries of docs/RECORDINGS.md
 
 Needs srec_cat, objcopy (Debian: srecord, binutils) and a python3 with intelhex (Debian: python3-intelhex).
@@ -214,6 +214,7 @@ HAND = {
         ("a_colon_alone", SMALL, (20, 1), ":\n" + LAST, "a colon alone"),
         ("four_bytes", SMALL, (20, 1), ":00000000\n" + LAST, "a record without its check byte"),
         ("no_colon", SMALL, (20, 2), GOOD + "0100000041BE\n" + LAST, "no colon"),
+        ("a_semicolon", SMALL, (20, 2), GOOD + ";0100000041BE\n" + LAST, "a semicolon for the colon"),
         ("a_wrong_sum", SMALL, (21, 2), GOOD + ":0100000041BF\n" + LAST, "the check byte is one too high"),
         ("a_wrong_sum_of_the_end", SMALL, (21, 2), GOOD + ":00000001FE\n", "the same of an end record"),
         ("a_wrong_sum_of_04", BIG, (21, 1), ":020000040001FA\n" + GOOD + LAST, "the same of a type 04 record"),

@@ -44,6 +44,7 @@ impl Tally {
         let (read, number) = match told {
             Told::Refused { place, fault, .. } => (place + 1, Some(fault.reason as u8)),
             Told::NoChip { .. } => return self.count("boards", "without the chip"),
+            Told::TooLong { .. } => return self.count("texts", "too long"),
             Told::Nothing if Bus::set_up(&run.asked().board).is_err() => return self.count("boards", "refused"),
             Told::Nothing => (texts.len(), None),
         };

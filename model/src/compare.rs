@@ -302,6 +302,7 @@ fn judge_told(expected: &Told, came: &str) -> Result<(), Failure> {
     let same = match expected {
         Told::Nothing => came.is_empty(),
         Told::NoChip { .. } => true,
+        Told::TooLong { .. } => came == format!("{expected}\n"),
         Told::Refused { file, fault, .. } => {
             let begins = format!("bench: {file}: line {}: ", fault.line);
             let ends = format!(" ({})\n", fault.reason as u8);

@@ -41,12 +41,19 @@ impl Files for Folder {
     }
 }
 
+/// A file that is longer is told, and nothing is played.
+const LONGEST_FILE: usize = 2_097_152;
+
 /// What is told on standard error.
 #[derive(Debug, Clone, PartialEq, Eq)]
 pub enum Told {
     Nothing,
     /// A chip that is not there.
     NoChip {
+        file: String,
+    },
+    /// A file to be loaded that is too long.
+    TooLong {
         file: String,
     },
     /// A load that is refused: the file, its place among the loads, and the fault.
@@ -62,6 +69,7 @@ impl fmt::Display for Told {
         match self {
             Told::Nothing => Ok(()),
             Told::NoChip { file } => write!(f, "bench: {file}: no such chip ({BAD_VALUE})"),
+            Told::TooLong { file } => write!(f, "bench: {file}: too long (more than {LONGEST_FILE} bytes)"),
             Told::Refused { file, fault: Fault { reason, line }, .. } => {
                 let why = match reason {
                     Reason::BadRecord => "bad digit or length",
@@ -92,7 +100,11 @@ pub fn play(words: &Words, files: &mut impl Files, input: impl Read, mut output:
         return Ok(Told::NoChip { file: image.file.clone() });
     }
     for (place, image) in words.loads.iter().enumerate() {
-        if let Err(fault) = bus.load(image.chip, &files.read(&image.file)?) {
+        let text = files.read(&image.file)?;
+        if text.len() > LONGEST_FILE {
+            return Ok(Told::TooLong { file: image.file.clone() });
+        }
+        if let Err(fault) = bus.load(image.chip, &text) {
             output.write_all(transcript::closing(fault.reason as u8).as_bytes())?;
             return Ok(Told::Refused { file: image.file.clone(), place, fault });
         }

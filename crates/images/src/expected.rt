@@ -36,7 +36,8 @@ fn fits(form: u8, byte: u8) -> bool {
     byte == form
 }
 
-fn has_form(form: &[u8], word: &[u8]) -> bool {
+// Whether a word opens as the form has it.
+fn opens(form: &[u8], word: &[u8]) -> bool {
     let mut i: usize = 0;
     while i < form.len() {
         if word.len() <= i {
@@ -50,8 +51,8 @@ fn has_form(form: &[u8], word: &[u8]) -> bool {
     true
 }
 
-pub fn is_expected(word: &[u8]) -> bool {
-    has_form(b"0:00:00000:", word)
+pub fn has_form(word: &[u8]) -> bool {
+    opens(b"0:00:00000:", word)
 }
 
 // A byte below '0' is no digit.

@@ -2,7 +2,7 @@
 use crate::expected::Expected;
 use crate::expected::NAME;
 use crate::expected::expected_by;
-use crate::expected::is_expected;
+use crate::expected::has_form;
 use crate::whole::fill_in;
 use crate::whole::other_line;
 use base::logic::and;
@@ -17,9 +17,7 @@ use image::saving::Saved;
 use image::saving::save;
 use libc::STDOUT_FILENO;
 use placing::layout::Board;
-use refusal::Refusal;
 use refusal::Verdict;
-use refusal::number_of;
 use refusal::status_of;
 ghost use Prim.Native.Nat.{_+_, _≤_};
 ghost use mathlib.Core.Path.{_≡_};
@@ -37,6 +35,9 @@ const ENDING: usize = 5;
 const CHIP: usize = 0;
 
 const ERASED: u8 = 0xFF;
+
+// The number of a text buffer that is too short.
+const SHORT_TEXT: usize = 19;
 
 // Whether a file is there and no longer than the buffer, and how much of that it fills.
 struct Known {
@@ -127,14 +128,9 @@ fn is_too_short(
 ) -> bool {
     let saved = save_in(bus, array, security, text, room);
     let verdict = saved.verdict;
-    let short = number_of(Refusal::ShortText) as usize;
+    let number = status_of(verdict) as usize;
     and(
-        is_same(
-            name,
-            b": short buffer, number: ",
-            short,
-            status_of(verdict) as usize,
-        ),
+        is_same(name, b": short buffer, number: ", SHORT_TEXT, number),
         is_same(name, b": short buffer, written: ", 0, saved.written),
     )
 }
@@ -294,13 +290,18 @@ fn fit(
     )
 }
 
+fn tell_form(word: &[u8]) {
+    tell(word, b": not PART:NN:LLLLL:NAME\n");
+}
+
+// Whether the file of a word is answered as the word says.
 pub fn as_recorded(word: &[u8]) -> bool {
     if word.len() <= NAME {
-        tell(word, b": not PART:NN:LLLLL:NAME\n");
+        tell_form(word);
         return false;
     }
-    if !is_expected(word) {
-        tell(word, b": not PART:NN:LLLLL:NAME\n");
+    if !has_form(word) {
+        tell_form(word);
         return false;
     }
     let expected = expected_by(word);

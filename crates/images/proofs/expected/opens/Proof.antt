@@ -2,8 +2,8 @@
 use Prim.Native.Nat.{_≤_, _-_}
 use lib.ListN.{length}
 use borrow.Author.Needs.{needs}
-use Rattle.images.proofs.expected.has_form.Statement.{statement}
-use Rattle.images.proofs.expected.has_form.Tie as tie
+use Rattle.images.proofs.expected.opens.Statement.{statement}
+use Rattle.images.proofs.expected.opens.Tie as tie
 
 abbrev Inv-loop : tie.InvT-loop
 Inv-loop form word i₀ i = i ≤ length form
@@ -41,8 +41,8 @@ loop-again c = search needs
 returns-3 : tie.Need-returns-3 Inv-loop μ-loop
 returns-3 c = search needs
 
-pub has-form-spec : {M : Type 1} → statement M
-has-form-spec =
+pub opens-spec : {M : Type 1} → statement M
+opens-spec =
     tie.close
     (tie.spec
     Inv-loop

@@ -1,8 +1,6 @@
 // What is expected of a file. A word is PART:NN:LLLLL:NAME: the part of the chip, the number that loading must answer (00: taken), the
 // line at fault, and the file; numbers are in decimal.
 use base::logic::and;
-ghost use Prim.Native.Nat.{_≤_};
-ghost use lib.ListN.{length};
 
 pub struct Expected {
     pub part: u8,
@@ -70,9 +68,15 @@ fn number_in(digits: &[u8]) -> usize {
     number
 }
 
-pub fn expected_by(word: &[u8]) -> Expected
-    requires { ⌜ 11 ≤ length (now word) ⌝ }
-{
+// Of a word that is too short nothing is expected.
+pub fn expected_by(word: &[u8]) -> Expected {
+    if word.len() < NAME {
+        return Expected {
+            part: 0,
+            number: 0,
+            line: 0,
+        };
+    }
     Expected {
         part: value_of(word[0]),
         number: number_in(&word[NUMBER..NUMBER_END]),

@@ -4,8 +4,8 @@
  *     hex SIZE [IN [OUT]]
  *
  * It is what ./speed measures the bench's `load` and `save` against, and a second opinion on them. It is
- * written from the words of request E1, with the points H1 to H12 of its design (cited below as [H4]), and
- * from no Rattle code. A refusal prints its number and the line at fault, 1 for the first; the status is 1.
+ * written from the words of request E1, with the decisions D41 to D52 of docs/DECISIONS.md (cited below as
+ * [D44]). A refusal prints its number and the line at fault, 1 for the first; the status is 1.
  */
 
 typedef unsigned char byte;
@@ -57,7 +57,7 @@ enum {
     MOST_BYTES = BESIDE_DATA + MOST_DATA
 };
 
-enum { END_COUNT = 0, UPPER_COUNT = 2 }; /* [H4] */
+enum { END_COUNT = 0, UPPER_COUNT = 2 }; /* [D44] */
 
 enum refusal {
     PASSED = 0,
@@ -120,7 +120,7 @@ static bool read_character(struct text *text, byte c)
     return 1;
 }
 
-/* LF or CR LF [H2] [H3]. */
+/* LF or CR LF [D42] [D43]. */
 static bool read_line_end(struct text *text)
 {
     read_character(text, '\r');
@@ -145,7 +145,7 @@ static bool is_bad_length(const byte *record)
            (record[KIND] == UPPER && record[COUNT] != UPPER_COUNT);
 }
 
-/* Only bytes that the record names count [H6]. */
+/* Only bytes that the record names count [D46]. */
 static bool is_past(const byte *record, unsigned upper, unsigned size)
 {
     return record[KIND] == DATA && record[COUNT] > 0 && first_address(record, upper) + record[COUNT] > size;
@@ -159,19 +159,19 @@ static enum refusal next_record(struct text *text, byte *record, unsigned upper,
     if (check_of(record, BESIDE_DATA + record[COUNT]) != 0)
         return WRONG_SUM;
     if (record[KIND] != DATA && record[KIND] != END && record[KIND] != UPPER)
-        return UNKNOWN_TYPE; /* [H9] */
+        return UNKNOWN_TYPE; /* [D49] */
     if (is_past(record, upper, size))
         return PAST_ARRAY;
     return PASSED;
 }
 
-/* The upper 16 address bits stand until a record of type 04 gives others [H7]. */
+/* The upper 16 address bits stand until a record of type 04 gives others [D47]. */
 static unsigned upper_after(const byte *record, unsigned upper)
 {
     return record[KIND] == UPPER ? word_of(record[FIRST_DATA], record[FIRST_DATA + 1]) : upper;
 }
 
-/* Checks a text whole; counts the lines up to the one at fault [H1] [H8] [H12]. */
+/* Checks a text whole; counts the lines up to the one at fault [D41] [D48] [D52]. */
 static enum refusal check(struct text text, unsigned size, unsigned *line)
 {
     byte record[MOST_BYTES];
@@ -229,7 +229,7 @@ static byte *put_record(byte *to, enum kind kind, unsigned address, const byte *
     return to;
 }
 
-/* Writes the array as text, with no 04 at the start [H11]; returns the text's end. */
+/* Writes the array as text, with no 04 at the start [D51]; returns the text's end. */
 static byte *put_array(byte *to, const byte *array, unsigned size)
 {
     unsigned upper = 0;

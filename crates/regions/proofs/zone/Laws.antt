@@ -1,9 +1,9 @@
 -- Zones, over any sound figures: no page crosses a zone, and there are eight.
-use Prim.Native.Nat.{ℕ, _+_, _*_, _/_, _<_, _≤_}
-use native.Mathlib.Nat.{mul-comm, div-div-eq-div-mul, div-lt-iff-lt-mul, div-eq-of-lt-le, mul-le-mul-right, add-mul, one-mul}
+use Prim.Native.Nat.{ℕ, _/_, _<_}
+use native.Mathlib.Nat.{mul-comm, div-div-eq-div-mul, div-lt-iff-lt-mul}
 use native.Mathlib.Omega.{arith}
 use mathlib.Core.Path.{_≡_, _∙_, sym, ap}
-use borrow.Author.Tests.{lt-ltb, le-ltb}
+use borrow.Author.Tests.{lt-ltb}
 use Rattle.parts.specs.declared.part.Geometry.{Geometry}
 use Rattle.parts.specs.Part.{Sound}
 use Rattle.regions.specs.Page.{pageOf}
@@ -31,12 +31,3 @@ module _ (g : Geometry) (sound : Sound g) where
       ∙ ap (λ (p : ℕ). p / (g .zone / g .page)) one-page
       ∙ sym (by-page to)
       ∙ sym (zone-is-quotient to to-inside)
-
-  -- how the walk meets the definition: it stops in the range that holds the address, or behind the eighth
-  pub zone-found : (at zone : ℕ) → zone < 8 → zone * g .zone ≤ at → at < zone * g .zone + g .zone → zone ≡ zoneOf g at
-  zone-found at zone early from to =
-      let inside : at < g .array = omega (arith, mul-le-mul-right (g .zone) early, add-mul zone 1 (g .zone), one-mul (g .zone), sound .zone-eight) in
-      rw (lt-ltb _ _ inside) (sym (div-eq-of-lt-le {k = zone} (g .zone) {m = at} from (omega (arith, add-mul zone 1 (g .zone), one-mul (g .zone)))))
-
-  pub zone-none : (at : ℕ) → 8 * g .zone ≤ at → 8 ≡ zoneOf g at
-  zone-none at past = let outside : g .array ≤ at = omega (arith, sound .zone-eight) in rw (le-ltb _ _ outside)

@@ -295,17 +295,12 @@ static bool chip_take(struct chip *chip, byte b)
 
 /* ---- A byte that the host reads */
 
-/* [Device ID] The three ID bytes, then FFh. */
-static byte send_id(struct chip *chip)
-{
-    return chip->place < ID_SIZE ? chip->part->id[chip->place++] : NO_BYTE;
-}
-
-/* [Read] From the last address to 0; also [Configuration], where byte 0 follows byte 1. */
+/* [Read] From the last address to 0; also [Configuration], where byte 0 follows byte 1, and [Device ID] (request E5),
+   whose three bytes are no power of two. */
 static byte send_next(const byte *memory, unsigned size, unsigned *counter)
 {
     byte b = memory[*counter];
-    *counter = modulo(*counter + 1, size);
+    *counter = *counter + 1 < size ? *counter + 1 : 0;
     return b;
 }
 
@@ -319,7 +314,7 @@ static byte chip_send(struct chip *chip)
     case SEND_CONFIGURATION:
         return send_next(chip->configuration, CONFIGURATION_SIZE, &chip->place);
     case SEND_ID:
-        return send_id(chip);
+        return send_next(chip->part->id, ID_SIZE, &chip->place);
     default:
         return NO_BYTE;
     }

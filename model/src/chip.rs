@@ -286,10 +286,10 @@ impl Chip {
                 let next = (place + 1) % self.configuration.len();
                 (self.configuration[place], Sends::Configuration { place: next })
             }
-            Sends::Id { place } => match self.part.id.get(place) {
-                Some(byte) => (*byte, Sends::Id { place: place + 1 }),
-                None => (NOTHING, sends),
-            },
+            Sends::Id { place } => {
+                let next = (place + 1) % self.part.id.len(); // request E5; UM10204, 11.0
+                (self.part.id[place], Sends::Id { place: next })
+            }
             Sends::Nothing => (NOTHING, sends),
         }
     }

@@ -179,9 +179,9 @@ mod tests {
 
     #[test]
     fn the_id_of_the_chosen_chip() {
-        let choose = "0100 03F8 03A9 0100 03F9 0400*3 0401 0200 0100 03F9 0401";
-        assert_eq!(bytes_read("2:0 1:2", choose), ["0000", "00D0", "00D0", "00FF", "00FF"]);
-        assert_eq!(bytes_read("2:4 1:0", choose), ["0000", "00D0", "00A8", "00FF", "00FF"]);
+        let choose = "0100 03F8 03A9 0100 03F9 0400*4 0401*2 0100 03F9 0401 0200 0100 03F9 0401";
+        assert_eq!(bytes_read("2:0 1:2", choose), ["0000", "00D0", "00D0", "0000", "00D0", "00FF", "0000", "00FF"]);
+        assert_eq!(bytes_read("2:4 1:0", choose), ["0000", "00D0", "00A8", "0000", "00D0", "00FF", "0000", "00FF"]);
     }
 
     #[test]

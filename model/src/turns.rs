@@ -32,6 +32,8 @@ const MUCH_DATA_PERCENT: usize = 2;
 const USUAL_READ: usize = 5;
 const MORE_READ: usize = 40;
 const MORE_READ_PERCENT: usize = 8;
+/// Of the three ID bytes at one F9h: twice round, and on.
+const ID_READ_MOST: usize = 8;
 const NACK_PERCENT: usize = 85;
 const STOP_PERCENT: usize = 90;
 
@@ -314,7 +316,7 @@ impl Script<'_> {
                 IdStep::Select => turn.append(&mut self.selection(chip)),
                 IdStep::Read => {
                     turn.extend([start(), send(ID_READ)]);
-                    turn.extend(vec![event(READ, ACK); self.rng.between(0, NEAR)]);
+                    turn.extend(vec![event(READ, ACK); self.rng.between(0, ID_READ_MOST)]);
                 }
                 IdStep::Other => turn.extend([start(), self.any_address(chip)]),
                 IdStep::Stop => turn.push(event(STOP, 0)),

@@ -5,3 +5,4 @@ pub mod Playing
 pub mod Bytes
 pub mod Versions
 pub mod Answers
+pub mod Identity

@@ -1,9 +1,8 @@
 -- A byte read by the host: the byte at the counter is sent and the counter advances, also where the host's NACK ends the read
 -- (paper, "Read", "Configuration" and "Device ID"; sheets 7.0, 9.4, 10.2 and 11.0).
-use Prim.Native.Nat.{ℕ, _+_}
+use Prim.Native.Nat.{ℕ}
 use mathlib.Core.Bool.{Bool, cond, not}
 use mathlib.Core.List.{List}
-use lib.Dec.{ltb}
 use lib.ListN.{getD}
 use Rattle.parts.specs.declared.part.Geometry.{Geometry}
 use Rattle.parts.specs.Part.{geometryOf}
@@ -22,12 +21,12 @@ use Rattle.control.specs.Said.{stays}
 abbrev pub noByte : ℕ
 noByte = 0xFF
 
--- the sheet's three ID bytes, then FF until a host NACK
+-- the sheet's three ID bytes, and after the third the first again, until a host NACK (request E5; UM10204 and sheets 11.0)
 abbrev pub idByte : Geometry → ℕ → ℕ
 idByte g place = getD (g .id) place noByte
 
 abbrev pub nextIdPlace : ℕ → ℕ
-nextIdPlace place = cond (ltb place 3) (place + 1) 3
+nextIdPlace place = nextIn 3 place
 
 -- the byte that goes out; an address matching no pattern reads FF
 abbrev pub byteFrom : Source → Control → List ℕ → List ℕ → ℕ

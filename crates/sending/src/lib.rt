@@ -16,8 +16,7 @@ const NO_BYTE: u8 = 0xFF;
 
 const ID_BYTES: usize = 3;
 
-// The place past the last ID byte.
-const ID_END: u8 = 3;
+const LAST_ID: u8 = 2;
 
 fn byte_at(share: &[u8], at: u32) -> u8
     ensures { λ r. ⌜ r ≡ getD (now (share .entry)) at noByte ⌝ }
@@ -40,11 +39,11 @@ fn id_byte(part: u8, place: u8) -> u8
     NO_BYTE
 }
 
-// After the third ID byte there is nothing more to send.
+// After the third ID byte the first follows (request E5; sheets 11.0).
 fn next_id_place(place: u8) -> u8
     ensures { λ r. ⌜ r ≡ nextIdPlace place ⌝ }
 {
-    if place < ID_END { place + 1 } else { ID_END }
+    if place < LAST_ID { place + 1 } else { 0 }
 }
 
 fn byte_from(source: Source, c: Control, array: &[u8], security: &[u8]) -> u8

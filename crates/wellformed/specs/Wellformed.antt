@@ -1,7 +1,7 @@
 -- A chip's own part of what makes a state well formed, clause by clause (paper, "Well formed means").
 use Prim.Native.Nat.{ℕ}
 use mathlib.Core.Bool.{Bool, true, cond, not, _&&_}
-use lib.Dec.{ltb, leb}
+use lib.Dec.{ltb}
 use Rattle.parts.specs.Part.{isPart, geometryOf}
 use Rattle.load.specs.Load.{within}
 use Rattle.control.specs.declared.Control.{Control}
@@ -20,12 +20,12 @@ isSetUp c = isPart (c .part) && ltb (c .strap) (geometryOf (c .part) .straps)
 abbrev pub countersFit : Control → Bool
 countersFit c = ltb (c .arraycounter) (geometryOf (c .part) .array) && ltb (c .securitycounter) (geometryOf (c .part) .security)
 
--- and so is the place in the ID: one of the three bytes, or the end
+-- and so is the place in the ID, which has three bytes
 abbrev pub idPlaceFits : Source → Bool
 idPlaceFits FromArray = true
 idPlaceFits FromSecurity = true
 idPlaceFits (FromConfiguration second) = true
-idPlaceFits (FromId place) = leb place 3
+idPlaceFits (FromId place) = ltb place 3
 idPlaceFits FromNothing = true
 
 abbrev pub placeFits : Phase → Bool

@@ -16,8 +16,7 @@ ghost use Rattle.wellformed.specs.Wellformed.{isSetUp, countersFit, idPl
 // Configuration byte 0 has no bit but 1 and 0.
 const CONFIG0_END: u8 = 4;
 
-// The place past the last ID byte.
-const ID_END: u8 = 3;
+const ID_BYTES: u8 = 3;
 
 fn id_place_fits(source: Source) -> bool
     ensures { λ r. ⌜ r ≡ idPlaceFits source ⌝ }
@@ -26,12 +25,12 @@ fn id_place_fits(source: Source) -> bool
         Source::FromArray => true,
         Source::FromSecurity => true,
         Source::FromConfiguration(_) => true,
-        Source::FromId(place) => place <= ID_END,
+        Source::FromId(place) => place < ID_BYTES,
         Source::FromNothing => true,
     }
 }
 
-// Where a chip sends its ID, the place is one of its bytes or the end.
+// Where a chip sends its ID, the place is one of its bytes.
 fn place_fits(phase: Phase) -> bool
     ensures { λ r. ⌜ r ≡ placeFits phase ⌝ }
 {

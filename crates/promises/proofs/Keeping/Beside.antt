@@ -104,6 +104,17 @@ other-inert : {c d : Control} → Beside c d → isAwaiting (c .phase) ≡ true 
 other-inert {d = d} b waits elsewhere =
     (λ is. true≢false (rw (awaits-address-is (d .phase) (b .second is waits)) at elsewhere), λ is. true≢false (sym is ∙ elsewhere))
 
+-- beside an active chip no other sends, and beside one that sends no other takes: it is inert
+pub no-other-sends : (c d : Control) → sideBySide c d ≡ true → isActive c ≡ true → isSending (d .phase) ≡ false
+no-other-sends c d test active =
+    fails _ (λ sends. beside-of c d test .one active (or-right (d .chosen) _ (or-left (isSending (d .phase)) _ sends)))
+
+pub no-other-takes : (c d : Control) → sideBySide c d ≡ true → isSending (c .phase) ≡ true → isTaking (d .phase) ≡ false
+no-other-takes c d test sends =
+    let b = beside-of c d test in
+    let active : isActive c ≡ true = or-right (c .chosen) _ (or-left (isSending (c .phase)) _ sends) in
+    rests d (b .one active, λ waits. false≢true (rw (awaits-address-is (c .phase) (b .first active waits)) at sends)) (λ (phase : Phase). isTaking phase ≡ false) refl refl
+
 -- so both await or one is inert; where an inert chip stays inert, only the case that both await is left
 unless-both-await : (c d : Control) {c′ d′ : Control} → Beside c d → (Inert c → Inert c′) → (Inert d → Inert d′)
     → (isAwaiting (c .phase) ≡ true → isAwaiting (d .phase) ≡ true → Beside c′ d′)

@@ -1,13 +1,12 @@
--- A byte read keeps the clauses: counters go round, and the place in the ID stops at its end.
+-- A byte read keeps the clauses: counters go round, and so does the place in the ID.
 use Rattle.parts.proofs.part.Laws.{array-some}
-use Prim.Native.Nat.{ℕ, _+_, _<_, _≤_}
-use native.Mathlib.Decide.{decLt}
+use Prim.Native.Nat.{ℕ}
 use native.Mathlib.Omega.{arith}
 use mathlib.Core.Bool.{Bool, true, false, cond, not}
 use mathlib.Core.List.{List}
 use mathlib.Core.Path.{_≡_, _∙_, refl}
-use lib.Dec.{leb}
-use borrow.Author.Tests.{lt-ltb, le-ltb, le-leb}
+use lib.Dec.{ltb}
+use borrow.Author.Tests.{lt-ltb}
 use Rattle.parts.proofs.part.Laws.{sound-of}
 use Rattle.regions.proofs.page.Laws.{next-below}
 use Rattle.load.specs.declared.Load.{Load}
@@ -26,13 +25,8 @@ use Rattle.promises.proofs.Keeping.Fits.{Fits, in-phase-fits, array-fit
 use Rattle.load.specs.Load.{empty}
 use Rattle.promises.proofs.Keeping.Good.{Good, standby}
 
--- a byte read: the place in the ID stops at its end, and counters go round
-next-id-fits : (place : ℕ) → leb (nextIdPlace place) 3 ≡ true
-next-id-fits place = go (decLt place 3)
-  where
-    go : Dec (place < 3) → leb (nextIdPlace place) 3 ≡ true
-    go (yes p) = rw (lt-ltb _ _ p) (le-leb (place + 1) 3 (omega arith))
-    go (no p) = let over : 3 ≤ place = omega arith in rw (le-ltb _ _ over) refl
+next-id-fits : (place : ℕ) → ltb (nextIdPlace place) 3 ≡ true
+next-id-fits place = lt-ltb _ _ (next-below 3 place (omega arith))
 
 module _ (c : Control) (load : Load) (f : Fits c) (empty : within 0 load ≡ true) where
   sends : (source : Source) → idPlaceFits source ≡ true → Good (inPhase (SendsByte source) c) load

@@ -11,7 +11,7 @@ use lib.ListN.{length, length-map, length-set, length-replicate}
 use mir.Syntax.{w8}
 use mir.Val.{Val, vbool, vint}
 use borrow.Author.Needs.{length-unmapped}
-use borrow.Author.Tests.{eqb-true, ltb-true, leb-true}
+use borrow.Author.Tests.{eqb-true, ltb-true}
 use denote.Builtin.{bool, u8}
 use denote.Laws.{Is}
 use Rattle.base.specs.Every.{FitsByte, AllBytes}
@@ -127,7 +127,7 @@ source-typed : (source : Source) → idPlaceFits source ≡ true → (u : Val) �
 source-typed FromArray fits = (_, (_, (refl, (tt, (refl, tt)))))
 source-typed FromSecurity fits = (_, (_, (refl, (tt, (refl, tt)))))
 source-typed (FromConfiguration second) fits = (_, (_, (refl, ((_, tt), (refl, (refl, tt))))))
-source-typed (FromId place) fits = (_, (_, (refl, ((_, tt), (refl, ((refl, omega (arith, leb-true place 3 fits)), tt))))))
+source-typed (FromId place) fits = (_, (_, (refl, ((_, tt), (refl, ((refl, omega (arith, ltb-true place 3 fits)), tt))))))
 source-typed FromNothing fits = (_, (_, (refl, (tt, (refl, tt)))))
 
 shown-typed : (shown : Shown) → (u : Val) × Is showns.the-row shown (u ∷ [])

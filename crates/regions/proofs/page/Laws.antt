@@ -1,6 +1,6 @@
 -- Pages, over any sound figures: an address is its page and its place there, and a load goes round its page.
 use Prim.Native.Nat.{ℕ, _+_, _*_, _/_, _%_, _<_, _≤_, _^_}
-use native.Mathlib.Nat.{mod-lt, mod-self, mod-eq-of-lt, div-lt-iff-lt-mul, mul-add-div-right, mul-add-mod-self-right, div-eq-of-lt, mul-le-mul-right, le-div-iff-mul-le, add-mul, one-mul}
+use native.Mathlib.Nat.{mod-lt, mod-self, mod-eq-of-lt, div-add-mod', div-lt-iff-lt-mul, mul-add-div-right, mul-add-mod-self-right, div-eq-of-lt, mul-le-mul-right, le-div-iff-mul-le, add-mul, one-mul}
 use native.Mathlib.Decide.{decLt}
 use native.Mathlib.Omega.{arith}
 use mathlib.Core.Path.{_≡_, _∙_, sym, ap}
@@ -23,6 +23,13 @@ next-is-mod size at inside = go (decLt (at + 1) size)
     go : Dec (at + 1 < size) → nextIn size at ≡ (at + 1) % size
     go (yes p) = rw (lt-ltb _ _ p) (sym (mod-eq-of-lt p))
     go (no p) = let last : at + 1 ≡ size = omega arith in let over : size ≤ at + 1 = omega arith in rw (le-ltb _ _ over) (sym (ap (λ (n : ℕ). n % size) last ∙ mod-self size))
+
+-- so whoever begins at 0 and has gone on n times is at n modulo the size
+pub next-of-mod : (size n : ℕ) → 0 < size → nextIn size (n % size) ≡ (n + 1) % size
+next-of-mod size n some =
+    next-is-mod size (n % size) (mod-lt n some)
+    ∙ sym (mul-add-mod-self-right (n / size) size (n % size + 1))
+    ∙ ap (λ (m : ℕ). m % size) (omega (arith, div-add-mod' n size))
 
 module _ (g : Geometry) (sound : Sound g) (at : ℕ) where
   pub place-below : placeOf g at < g .page

@@ -1,8 +1,8 @@
 /* The bench in plain C: one to four serial EEPROMs on an I2C line, a transcript in, answers out.
  *
  * It is what ./speed measures the proved program against, and a second opinion on its answers. It is
- * written from the rules of the bench (cited below by the name of their bullet, as [Data]) and the two
- * data sheets, 000 for the 24CSM01 and 001 for the 24CS32, and from no Rattle code.
+ * written from the rules of the bench (cited below by the name of their bullet, as [Data]), the customer's
+ * requests and the two data sheets, 000 for the 24CSM01 and 001 for the 24CS32, and from no Rattle code.
  */
 
 typedef unsigned char byte;

@@ -1,4 +1,4 @@
-//! A model of the bench, written from the paper and the sheets alone, to compare the bench with.
+//! A model of the bench, written from the paper, the requests and the sheets alone, to compare the bench with.
 
 mod board;
 mod bus;

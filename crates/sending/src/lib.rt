@@ -16,6 +16,7 @@ const NO_BYTE: u8 = 0xFF;
 
 const ID_BYTES: usize = 3;
 
+// The place of the last ID byte.
 const LAST_ID: u8 = 2;
 
 fn byte_at(share: &[u8], at: u32) -> u8

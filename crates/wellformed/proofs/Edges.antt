@@ -14,9 +14,9 @@ use Rattle.chip.specs.Chip.{fresh}
 use Rattle.wellformed.specs.Wellformed.{wellFormed}
 
 -- a 24CS32 that sends its ID from a place on
-abbrev identifies : ℕ → Chip
-identifies place = let c = fresh 2 0 in record { control = inPhase (SendsByte (FromId place)) (c .control); load = c .load }
+abbrev sendsIdFrom : ℕ → Chip
+sendsIdFrom place = let c = fresh 2 0 in record { control = inPhase (SendsByte (FromId place)) (c .control); load = c .load }
 
-pub id-places-on-both-sides : map (λ (place : ℕ). wellFormed (identifies place)) (0 ∷ 2 ∷ 3 ∷ 255 ∷ []) ≡ true ∷ true ∷ false ∷ false ∷ []
+pub id-places-on-both-sides : map (λ (place : ℕ). wellFormed (sendsIdFrom place)) (0 ∷ 2 ∷ 3 ∷ 255 ∷ []) ≡ true ∷ true ∷ false ∷ false ∷ []
 unfolding wellFormed load.within geometryOf upTo
 id-places-on-both-sides = refl

@@ -445,7 +445,8 @@ enum status {
     BAD_KIND = 6,
     BAD_VALUE = 7,
     WRONG_DIRECTION = 8,
-    BAD_LINE = 9
+    BAD_LINE = 9,
+    NOT_BUSY = 12 /* request E2 */
 };
 
 struct bus {
@@ -523,6 +524,8 @@ static enum status refusal(const struct bus *bus, unsigned kind, unsigned value)
         return BAD_KIND;
     if (!value_allowed(bus, kind, value))
         return BAD_VALUE;
+    if (kind == CYCLE_OVER && bus->chips[value].phase != BUSY)
+        return NOT_BUSY;
     if ((kind == SEND && any_sending(bus)) || (kind == READ && any_taking(bus)))
         return WRONG_DIRECTION;
     return DONE;
@@ -532,13 +535,6 @@ static void each_chip(struct bus *bus, void (*change)(struct chip *))
 {
     for (unsigned k = 0; k < bus->count; k++)
         change(&bus->chips[k]);
-}
-
-/* [Stop] Busy until event 07, then on standby; no effect if not busy. */
-static void cycle_over(struct chip *chip)
-{
-    if (chip->phase == BUSY)
-        chip->phase = STANDBY;
 }
 
 /* Plays an event that is not refused, and gives the reply. */
@@ -560,7 +556,7 @@ static byte play_event(struct bus *bus, unsigned kind, unsigned value)
         bus->chips[value].wp = kind == WP_HIGH;
         return 0;
     case CYCLE_OVER:
-        cycle_over(&bus->chips[value]);
+        bus->chips[value].phase = STANDBY; /* [Stop] Any chip but a busy one was refused. */
         return 0;
     default: /* POWER_UP */
         each_chip(bus, chip_power_up);

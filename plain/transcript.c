@@ -14,7 +14,7 @@ enum {
     LONGEST_TURNS = 80 /* more lines than one choice of `turn` writes */
 };
 
-enum kind { START = 1, STOP = 2, SEND = 3, READ = 4, CYCLE_OVER = 7 };
+enum kind { START = 1, STOP = 2, SEND = 3, READ = 4, WP_LOW = 5, CYCLE_OVER = 7 };
 enum { HOST_ACK = 0, HOST_NACK = 1 };
 enum { ARRAY = 0xA0, REGISTER = 0xB0, READ_BIT = 1, ID_SELECT = 0xF8, ID_READ = 0xF9 };
 enum { CONFIGURATION_HIGH = 0x88 };
@@ -129,6 +129,6 @@ int main(int argc, char **argv)
     while (lines + LONGEST_TURNS <= wanted)
         turn();
     while (lines < wanted)
-        event(CYCLE_OVER, 0); /* a turn by itself */
+        event(WP_LOW, 0); /* a turn by itself */
     return fflush(stdout) == 0 ? 0 : 1;
 }

@@ -23,6 +23,7 @@ pub const DONE: u8 = 0;
 pub const UNKNOWN_KIND: u8 = 6;
 pub const BAD_VALUE: u8 = 7;
 pub const WRONG_DIRECTION: u8 = 8;
+pub const NOT_BUSY: u8 = 12;
 
 /// An event as the transcript writes it.
 #[derive(Debug, Clone, Copy, PartialEq, Eq)]
@@ -76,24 +77,31 @@ impl Bus {
         }
     }
 
-    /// The number with which the event is refused: 6, 7, 8 in this order, or DONE.
+    /// The number with which the event is refused: 6, 7, 12, 8 in this order, or DONE.
     fn refusal(&self, Event { kind, value }: Event) -> u8 {
+        let named = usize::from(value);
         let allowed = match kind {
             START | STOP | POWER_UP => value == 0,
             SEND => true,
             READ => value == ACK || value == NACK,
-            WP_LOW | WP_HIGH | CYCLE_OVER => usize::from(value) < self.chips.len(),
+            WP_LOW | WP_HIGH | CYCLE_OVER => named < self.chips.len(),
             _ => return UNKNOWN_KIND,
         };
+        if !allowed {
+            return BAD_VALUE;
+        }
+        if kind == CYCLE_OVER && self.chips[named].phase() != Phase::Busy {
+            return NOT_BUSY; // request E2: the chip named decides, whatever the others do
+        }
         let against = match kind {
             SEND => self.chips.iter().any(|chip| matches!(chip.phase(), Phase::Sends(_))),
             READ => self.chips.iter().any(|chip| matches!(chip.phase(), Phase::Takes(_))),
             _ => false,
         };
-        match (allowed, against) {
-            (false, _) => BAD_VALUE,
-            (true, true) => WRONG_DIRECTION,
-            (true, false) => DONE,
+        if against {
+            WRONG_DIRECTION
+        } else {
+            DONE
         }
     }
 

@@ -1,6 +1,6 @@
 //! Counts what happens in runs, to see that what matters happens often.
 
-use crate::bus::{Bus, DONE, READ, SEND, STOP};
+use crate::bus::{Bus, DONE, NOT_BUSY, READ, SEND, STOP};
 use crate::chip::{Phase, Sends, Takes, Target, NOTHING};
 use crate::generate;
 use crate::images::{self, ImageRun};
@@ -102,6 +102,13 @@ fn count_run(seed: u64, counts: &mut BTreeMap<String, u64>) {
         let answer = bus.step(event);
         events += 1;
         count(format!("status {}", answer.status));
+        if answer.status == NOT_BUSY {
+            // The lines below are of every chip on the line; here the chip that is named matters.
+            count(format!("event {:02X} refused: its chip {}", event.kind, doing(before[usize::from(event.value)])));
+            if before.contains(&Phase::Busy) {
+                count(format!("event {:02X} refused: another chip is busy", event.kind));
+            }
+        }
         if answer.status != DONE {
             continue;
         }

@@ -358,11 +358,9 @@ impl Chip {
         self.wp_high = high;
     }
 
-    /// Event 07: "no effect if not busy".
+    /// Event 07 at a busy chip: at any other the bus refuses it (request E2).
     pub fn cycle_over(&mut self) {
-        if self.phase == Phase::Busy {
-            self.phase = Phase::Standby;
-        }
+        self.phase = Phase::Standby;
     }
 
     /// Paper, Power up; with it a 1011 read shows the security register again (paper, Security register).

@@ -158,9 +158,16 @@ fn no_digit(rng: &mut Rng) -> u8 {
 #[cfg(test)]
 mod tests {
     use super::*;
+    use crate::bus::{Bus, CYCLE_OVER, DONE, NOT_BUSY};
+    use crate::chip::Phase;
     use crate::transcript::events;
 
     const SEEDS: u64 = 300;
+    /// So many of them are played.
+    const PLAYED: u64 = 30;
+    /// Of the events 07 at least one in so many is done, and one refused; and one in so many goes to the wrong chip.
+    const COMMON: usize = 8;
+    const AT_TIMES: usize = 20;
 
     #[test]
     fn runs_repeat_and_have_their_length() {
@@ -182,5 +189,22 @@ mod tests {
         for refusal in [Refusal::Part, Refusal::Strap, Refusal::Clash] {
             assert!(boards.iter().any(|board| board::check(board).err() == Some(refusal)));
         }
+    }
+
+    #[test]
+    fn cycle_over_is_done_often_and_refused_often() {
+        let (mut done, mut refused, mut wrong) = (0, 0, 0);
+        for run in (0..PLAYED).map(run) {
+            let Ok(mut bus) = Bus::set_up(&run.asked().board) else { continue };
+            for event in events(&run.transcript) {
+                let busy = bus.chips().iter().any(|chip| chip.phase() == Phase::Busy);
+                let status = bus.step(event).status;
+                done += usize::from(event.kind == CYCLE_OVER && status == DONE);
+                refused += usize::from(status == NOT_BUSY);
+                wrong += usize::from(status == NOT_BUSY && busy);
+            }
+        }
+        let all = done + refused;
+        assert!(done * COMMON >= all && refused * COMMON >= all && wrong * AT_TIMES >= all, "{done} {refused} {wrong}");
     }
 }

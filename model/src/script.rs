@@ -92,8 +92,10 @@ const LONGEST_NOISE: usize = 8;
 /// When the cycle that a turn may have started is over: in so many of a hundred turns.
 const OVER_AT_ONCE_PERCENT: usize = 60;
 const OVER_AFTER_POLLING_PERCENT: usize = 40;
-/// In so many of a hundred turns the chip's cycle is ended before the turn.
-const OVER_BEFORE_PERCENT: usize = 20;
+/// In so many of a hundred turns that may have started a cycle, that of any chip is said to be over first (request E2).
+const OVER_ASTRAY_PERCENT: usize = 10;
+/// In so many of a hundred turns the chip's cycle is ended before the turn. Mostly there is none, and it is refused.
+const OVER_BEFORE_PERCENT: usize = 10;
 
 /// In so many of a hundred transcripts locks come from the start, and not only late.
 const EARLY_LOCKS_PERCENT: usize = 15;
@@ -232,8 +234,12 @@ impl Script<'_> {
         event(kind, self.rng.pick(&[first_bad, u8::MAX, any]))
     }
 
-    /// Ends the cycle that a turn may have started: at once, after polling, or later or never.
+    /// Ends the cycle that a turn may have started: at once, after polling, later or never; at times any chip's first.
     fn end_cycle(&mut self, chip: usize) {
+        if self.rng.percent(OVER_ASTRAY_PERCENT) {
+            let any = self.rng.below(self.seats.len());
+            self.events.push(event(CYCLE_OVER, any as u8));
+        }
         let over = event(CYCLE_OVER, chip as u8);
         if self.rng.percent(OVER_AT_ONCE_PERCENT) {
             self.events.push(over);

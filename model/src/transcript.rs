@@ -178,6 +178,72 @@ mod tests {
     }
 
     #[test]
+    fn cycle_over_at_a_chip_that_has_none_is_refused() {
+        let write = "0100 03A0 0300*2 03A5 0200";
+        for (before, why) in [
+            ("", "fresh"),
+            (&format!("{write} 0700"), "over already"),
+            (&format!("{write} 0800"), "power up"),
+            (&format!("0600 {write}"), "protected"),
+            ("0100 03A0 0300*2 0200", "no data"),
+            ("0100 03A0 0300*2 03A5 0100 03A0 0200", "broken off"),
+            ("0100 03B0 0308 0300 03A5 0200", "read-only half"),
+            ("0100 03B0 0388 0300 0302 0301 0399 0200", "not confirmed"),
+        ] {
+            let came = answers("2:0", &lines(&format!("{before} 0700 0100 03A0")));
+            assert_eq!(came[came.len() - 3..], ["07000C00", "01000000", "03A00001"], "{why}");
+        }
+    }
+
+    #[test]
+    fn every_cycle_is_over_once() {
+        for write in ["03A0 0300*2 03A5", "03B0 0308 0320 03A5", "03B0 0306 0300*2", "03B0 0388 0300 0302 0301 0366"] {
+            let came = answers("2:0", &lines(&format!("0100 {write} 0200 0700*2")));
+            assert_eq!(came[came.len() - 2..], ["07000000", "07000C00"], "{write}");
+        }
+    }
+
+    #[test]
+    fn cycle_over_at_the_wrong_chip_leaves_the_right_one_busy() {
+        for (busy, wrong) in [(0, 1), (0, 2), (1, 0), (1, 2), (2, 0), (2, 1)] {
+            let address = 0xA0 + 2 * busy;
+            let write = format!("0100 03{address:02X} 0300*2 03A5 0200");
+            let poll = format!("0100 03{address:02X} 0200");
+            let came = answers("", &lines(&format!("{write} 070{wrong} {poll} 070{busy} {poll} 070{busy}")));
+            let expected = format!(
+                "070{wrong}0C00 01000000 03{address:02X}0000 02000000 \
+                 070{busy}0000 01000000 03{address:02X}0001 02000000 070{busy}0C00"
+            );
+            assert_eq!(came[6..], expected.split_whitespace().collect::<Vec<_>>());
+        }
+    }
+
+    #[test]
+    fn cycle_over_with_a_value_that_names_no_chip_is_a_bad_value() {
+        for (words, value) in [("2:0", "01"), ("", "03"), ("2:0 2:1 2:2 2:3", "04"), ("", "FF")] {
+            for before in ["", "0100 03A0 0300*2 03A5 0200"] {
+                let came = answers(words, &lines(&format!("{before} 07{value}")));
+                assert_eq!(came.last(), Some(&format!("07{value}0700")), "{words}: {before}");
+            }
+        }
+    }
+
+    #[test]
+    fn a_refused_cycle_over_amid_an_exchange_changes_nothing() {
+        let identify = "0100 03F8 03A0 0100 03F9 0400*3 0401";
+        let configuration = "0100 03B0 0388 0300 0302 0100 03B1 0400*2 0401";
+        let write = "0100 03A0 0300 031D 0311 0322 0333 0200";
+        let read_back = lines("0700 0100 03A0 0300 031D 0100 03A1 0400*2 0401 0200");
+        let before = lines(&format!("{identify} {configuration} {write}"));
+        let amid: String = before.lines().map(|line| format!("0700\n{line}\n")).collect();
+        let came = answers("2:0", &(amid + &read_back));
+        let (refused, rest): (Vec<_>, Vec<_>) = came.into_iter().partition(|answer| answer == "07000C00");
+        assert_eq!(refused.len(), before.lines().count());
+        assert_eq!(rest[rest.len() - 4..], ["04000011", "04000022", "04010033", "02000000"]);
+        assert_eq!(rest, answers("2:0", &(before + &read_back)));
+    }
+
+    #[test]
     fn the_id_of_the_chosen_chip() {
         let choose = "0100 03F8 03A9 0100 03F9 0400*4 0401*2 0100 03F9 0401 0200 0100 03F9 0401";
         assert_eq!(bytes_read("2:0 1:2", choose), ["0000", "00D0", "00D0", "0000", "00D0", "00FF", "0000", "00FF"]);

@@ -1,4 +1,4 @@
--- A single step: checks 10, 5, 6, 7, 8, and then the event on the line (paper, "Events and replies").
+-- A single step: checks 10, 5, 6, 7, 12, 8, and then the event on the line (paper, "Events and replies"; 12: request E2).
 use Prim.Native.Nat.{ℕ}
 use mathlib.Core.Bool.{Bool, not}
 use mathlib.Core.List.{List, [], _∷_, _++_}
@@ -6,7 +6,7 @@ use lib.Dec.{leb}
 use lib.ListN.{length}
 use Rattle.chip.specs.declared.event.Event.{Event}
 use Rattle.refusal.specs.declared.Refusal.{Refusal}
-use Rattle.refusal.specs.declared.Refusal.the-variants.{NotWellFormed, WrongLength, WrongValue, Clash}
+use Rattle.refusal.specs.declared.Refusal.the-variants.{NotWellFormed, WrongLength, WrongValue}
 use Rattle.refusal.specs.declared.Verdict.{Verdict}
 use Rattle.refusal.specs.declared.Verdict.the-variants.{Passed, Refused}
 use Rattle.refusal.specs.declared.Answer.the-variants as answer
@@ -17,7 +17,7 @@ use Rattle.decode.specs.declared.Addressed.{Addressed}
 use Rattle.decode.specs.Decode.{decodeChecks, addressedOf, eventOf}
 use Rattle.lineup.specs.Chips.{placesOf}
 use Rattle.lineup.specs.Wellformed.{wellFormed}
-use Rattle.line.specs.Line.{clash, OnLine, chipsOf, saidOf, play, lineReply}
+use Rattle.line.specs.Line.{lineChecks, OnLine, chipsOf, saidOf, play, lineReply}
 use Rattle.bus.specs.declared.Bus.{Bus}
 use Rattle.bus.specs.declared.Stepped.{Stepped}
 
@@ -34,7 +34,7 @@ chipChecks bus array security chip = entryChecks bus array security ++ ((leb (bu
 
 -- then the event
 abbrev pub eventChecks : Bus → ℕ → List (Bool × Refusal)
-eventChecks bus word = decodeChecks (bus .count) word ++ ((clash (eventOf (addressedOf word)) (bus .count) (bus .chips), Clash) ∷ [])
+eventChecks bus word = decodeChecks (bus .count) word ++ lineChecks (addressedOf word) (bus .count) (bus .chips)
 
 abbrev pub stepChecks : Bus → List ℕ → List ℕ → ℕ → List (Bool × Refusal)
 stepChecks bus array security word = entryChecks bus array security ++ eventChecks bus word

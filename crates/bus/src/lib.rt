@@ -9,8 +9,8 @@ use decode::Addressed;
 use decode::addressed_of;
 use decode::decode_verdict;
 use decode::event_of;
-use line::clash;
 use line::line_reply;
+use line::line_verdict;
 use lineup::places_of;
 use refusal::Answer;
 use refusal::Refusal;
@@ -190,7 +190,7 @@ fn fresh_chips(count: usize, places: [Place; PLACES]) -> [Chip; PLACES]
     chips
 }
 
-// Checks 6, 7 and 8.
+// Checks 6, 7, 12 and 8.
 fn event_verdict(bus: Bus, word: u16) -> Verdict
     ensures { λ r. ⌜ r ≡ firstOf (eventChecks bus word) ⌝ }
 {
@@ -199,11 +199,7 @@ fn event_verdict(bus: Bus, word: u16) -> Verdict
         Verdict::Refused(refusal) => Verdict::Refused(refusal),
         Verdict::Passed => {
             let chips = bus.chips;
-            if clash(event_of(addressed_of(word)), bus.count, chips) {
-                Verdict::Refused(Refusal::Clash)
-            } else {
-                Verdict::Passed
-            }
+            line_verdict(addressed_of(word), bus.count, chips)
         }
     }
 }

@@ -59,7 +59,7 @@ stop c array security =
 abbrev pub wp : Bool → Chip → Chip
 wp level c = record { control = control.wpAt level (c .control); load = c .load }
 
--- the write cycle is over: standby until the next Start; no effect if not busy
+-- the write cycle is over: standby until the next Start; no effect if not busy, which the bus refuses (request E2, 12)
 abbrev pub cycleOver : Chip → Chip
 cycleOver c =
     cond (isBusy (c .control .phase)) (record { control = control.inPhase Standby (c .control); load = c .load }) c

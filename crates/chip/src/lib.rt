@@ -111,7 +111,7 @@ impl Chip {
         }
     }
 
-    // The write cycle is over; no effect on a chip that has none.
+    // The write cycle is over; no effect on a chip that has none: the bus refuses that (12).
     pub fn cycle_over(self) -> Chip
         ensures { λ r. ⌜ r ≡ cycleOver self ⌝ }
     {

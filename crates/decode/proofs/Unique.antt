@@ -1,5 +1,7 @@
 -- Every public contract of this crate leaves one outcome: any two that it allows are equal.
 use Rattle.base.proofs.Unique.{Unique, same}
+use Rattle.decode.proofs.hearing.lacks_cycle.Kinds as lacks-cycle-kinds
+use Rattle.decode.proofs.hearing.lacks_cycle.Reads as lacks-cycle-reads
 use Rattle.decode.proofs.hearing.clashes_with.Kinds as clashes-with-kinds
 use Rattle.decode.proofs.hearing.clashes_with.Reads as clashes-with-reads
 use Rattle.decode.proofs.hearing.hears.Kinds as hears-kinds
@@ -12,6 +14,9 @@ use Rattle.decode.proofs.reaches.Kinds as reaches-kinds
 use Rattle.decode.proofs.reaches.Reads as reaches-reads
 use Rattle.decode.proofs.event_of.Kinds as event-of-kinds
 use Rattle.decode.proofs.event_of.Reads as event-of-reads
+
+pub lacks-cycle-unique : Unique lacks-cycle-kinds.ps lacks-cycle-kinds.r lacks-cycle-reads.Post
+lacks-cycle-unique κs args x y at-x at-y = same
 
 pub clashes-with-unique : Unique clashes-with-kinds.ps clashes-with-kinds.r clashes-with-reads.Post
 clashes-with-unique κs args x y at-x at-y = same

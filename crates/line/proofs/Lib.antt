@@ -1,3 +1,4 @@
 pub mod Deaf
+pub mod Edges
 pub mod Takes
 pub mod Unique

@@ -1,8 +1,8 @@
 -- An event on the line: every chip that it reaches takes it on its own shares of the two stores, and the line's answer is gathered
 -- from all (paper, "Events and replies" and "The two memories").
 use Prim.Native.Nat.{ℕ}
-use mathlib.Core.Bool.{Bool, cond}
-use mathlib.Core.List.{List}
+use mathlib.Core.Bool.{Bool, false, cond}
+use mathlib.Core.List.{List, [], _∷_}
 use lib.ListN.{set}
 use Rattle.base.specs.Fold.{upTo, anyBelow}
 use Rattle.base.specs.Store.{span, patched}
@@ -14,19 +14,31 @@ use Rattle.chip.specs.declared.Stepped.{Stepped}
 use Rattle.chip.specs.declared.event.Event.{Event}
 use Rattle.chip.specs.declared.event.Event.the-variants.{Start, Stop, Sent, Read, Wp, CycleOver, PowerUp}
 use Rattle.chip.specs.Chip.{step}
+use Rattle.refusal.specs.declared.Refusal.{Refusal}
+use Rattle.refusal.specs.declared.Refusal.the-variants.{NotBusy, Clash}
 use Rattle.board.specs.declared.Place.{Place}
 use Rattle.board.specs.Place.{placed}
 use Rattle.board.specs.Stores.{WithStores, arrayOf, securityOf}
 use Rattle.board.specs.Shares.{figuresAt, arrayStart, securityStart}
 use Rattle.decode.specs.declared.Addressed.{Addressed}
+use Rattle.decode.specs.declared.Addressed.the-variants.{ToAll, ToOne}
 use Rattle.decode.specs.Decode.{reaches, eventOf}
-use Rattle.decode.specs.Hearing.{clashesWith}
+use Rattle.decode.specs.Hearing.{lacksCycle, clashesWith}
 use Rattle.lineup.specs.Chips.{chipAt, controlAt, placesOf}
 use Rattle.line.specs.declared.Played.{Played}
+
+-- refusal 12: cycle over, and the chip that it names is not busy (request E2); no other chip is asked
+abbrev pub notBusy : Addressed → List Chip → Bool
+notBusy (ToAll event) chips = false
+notBusy (ToOne named event) chips = lacksCycle event (controlAt chips named .phase)
 
 -- refusal 8: a byte sent while a chip is sending, or a byte read while a chip is taking bytes
 abbrev pub clash : Event → ℕ → List Chip → Bool
 clash event count chips = anyBelow (λ (i : ℕ). clashesWith event (controlAt chips i .phase)) (placed count)
+
+-- what the chips can refuse: 12, then 8
+abbrev pub lineChecks : Addressed → ℕ → List Chip → List (Bool × Refusal)
+lineChecks addressed count chips = (notBusy addressed chips, NotBusy) ∷ (clash (eventOf addressed) count chips, Clash) ∷ []
 
 -- a chip's share of each store
 abbrev pub arrayShare : List Place → ℕ → List ℕ → List ℕ

@@ -7,15 +7,20 @@ use board::placed;
 use chip::Chip;
 use chip::event::Event;
 use control::Said;
+use control::phase::Phase;
 use decode::Addressed;
 use decode::event_of;
 use decode::hearing::clashes_with;
 use decode::hearing::hears;
+use decode::hearing::lacks_cycle;
 use decode::reaches;
 use lineup::controls_of;
 use parts::part::geometry_of;
+use refusal::Refusal;
+use refusal::Verdict;
 ghost use mathlib.Core.Path.{_≡_};
-ghost use Rattle.line.specs.Line.{clash, heard, play, unanswered, lineReply};
+ghost use Rattle.refusal.specs.Checks.{firstOf};
+ghost use Rattle.line.specs.Line.{notBusy, clash, lineChecks, heard, play, unanswered, lineReply};
 
 // What the line carries when nobody speaks: to a byte read, and to every other event.
 const IDLE: u8 = 0xFF;
@@ -29,8 +34,27 @@ pub struct Played {
     pub said: Said,
 }
 
-// Check 8 of a step.
-pub fn clash(event: Event, count: usize, chips: [Chip; PLACES]) -> bool
+// Refusal 12. A place past the last has no chip, so none that is busy; a step lets no such place through (7).
+fn not_busy(addressed: Addressed, chips: [Chip; PLACES]) -> bool
+    ensures { λ r. ⌜ r ≡ notBusy addressed chips ⌝ }
+{
+    match addressed {
+        Addressed::ToAll(_) => false,
+        Addressed::ToOne(named, event) => {
+            let at = named as usize;
+            if PLACES <= at {
+                return lacks_cycle(event, Phase::Standby);
+            }
+            let chip = chips[at];
+            let control = chip.control;
+            let phase = control.phase;
+            lacks_cycle(event, phase)
+        }
+    }
+}
+
+// Refusal 8.
+fn clash(event: Event, count: usize, chips: [Chip; PLACES]) -> bool
     ensures { λ r. ⌜ r ≡ clash event count chips ⌝ }
 {
     let n = placed(count);
@@ -44,6 +68,19 @@ pub fn clash(event: Event, count: usize, chips: [Chip; PLACES]) -> bool
         i += 1;
     }
     found
+}
+
+// Checks 12 and 8 of a step.
+pub fn line_verdict(addressed: Addressed, count: usize, chips: [Chip; PLACES]) -> Verdict
+    ensures { λ r. ⌜ r ≡ firstOf (lineChecks addressed count chips) ⌝ }
+{
+    if not_busy(addressed, chips) {
+        return Verdict::Refused(Refusal::NotBusy);
+    }
+    if clash(event_of(addressed), count, chips) {
+        return Verdict::Refused(Refusal::Clash);
+    }
+    Verdict::Passed
 }
 
 fn heard(before: Said, said: Said) -> Said

@@ -28,7 +28,6 @@ use Rattle.chip.specs.declared.event.Event.{Event}
 use Rattle.chip.specs.declared.event.Event.the-variants.{Start, Sent, Read}
 use Rattle.chip.specs.Chip.{fresh, quiet, step}
 use Rattle.wellformed.specs.Beside.{sideBySide}
-use Rattle.refusal.specs.declared.Refusal.the-variants.{Clash}
 use Rattle.refusal.specs.declared.Verdict.the-variants.{Passed}
 use Rattle.refusal.specs.Refusal.{answerWord}
 use Rattle.refusal.specs.Checks.{firstOf}
@@ -36,10 +35,10 @@ use Rattle.refusal.proofs.Checks.{passed-first}
 use Rattle.board.specs.Place.{placed}
 use Rattle.board.specs.Stores.{arrayOf, securityOf}
 use Rattle.decode.specs.declared.Addressed.the-variants.{ToAll}
-use Rattle.decode.specs.Decode.{decodeChecks, addressedOf, eventOf}
+use Rattle.decode.specs.Decode.{decodeChecks, addressedOf}
 use Rattle.decode.specs.Hearing.{clashesWith}
 use Rattle.lineup.specs.Chips.{chipAt, controlAt, placesOf}
-use Rattle.line.specs.Line.{clash, arrayShare, securityShare}
+use Rattle.line.specs.Line.{lineChecks, arrayShare, securityShare}
 use Rattle.bus.specs.Step.{entryChecks, eventChecks, stepChecks}
 use Rattle.bus.specs.Step as bus
 use Rattle.bus.proofs.Entry.{Entered, entered}
@@ -128,14 +127,14 @@ module _ (world : World) (typed : OfItsType (busOf world)) (enters : firstOf (en
       go (no p) (yes q) = beside-sym (controlAt chips j) (controlAt chips k) (apart j k before q)
       go (no p) (no q) = absurd (differ (omega arith))
 
-  -- an event that clashes with no chip passes all checks
-  passes : (word : ℕ) (event : Event) → firstOf (decodeChecks count word) ≡ Passed → eventOf (addressedOf word) ≡ event
+  -- an event to all that clashes with no chip passes all checks
+  passes : (word : ℕ) (event : Event) → firstOf (decodeChecks count word) ≡ Passed → addressedOf word ≡ ToAll event
       → ((j : ℕ) → j < placed count → (j ≡ k → ⊥) → clashesWith event (controlAt chips j .phase) ≡ false)
       → clashesWith event (controlAt chips k .phase) ≡ false
       → firstOf (stepChecks (busOf world) (arrayOf world) (securityOf world) word) ≡ Passed
   passes word event decodes asks others mine =
       passed-first (entryChecks (busOf world) (arrayOf world) (securityOf world)) (eventChecks (busOf world) word) enters
-      ∙ passed-first (decodeChecks count word) ((clash (eventOf (addressedOf word)) count chips, Clash) ∷ []) decodes
+      ∙ passed-first (decodeChecks count word) (lineChecks (addressedOf word) count chips) decodes
       ∙ rw (asks, any-one (λ (i : ℕ). clashesWith event (controlAt chips i .phase)) (placed count) k here others, mine)
 
   -- F9h, where the chip is chosen: no other sends
@@ -176,7 +175,7 @@ module _ (world : World) (typed : OfItsType (busOf world)) (enters : firstOf (en
     read-passes =
         passes (readWord nack) (Read nack)
         (either (λ (reply : ℕ). firstOf (decodeChecks count (wordOf 4 reply)) ≡ Passed) nack 1 0 refl refl)
-        (ap eventOf asks)
+        asks
         (λ j before differ. no-other-takes (controlAt chips k) (controlAt chips j) (others-beside j before differ) is-sending)
         (ap (λ (d : Chip). isTaking (d .control .phase)) sends)
 

@@ -7,6 +7,7 @@ pub mod Kept
 pub mod Setup
 pub mod Refused
 pub mod Exactly
+pub mod CycleOver
 pub mod Playing
 pub mod Runs
 mod Sent

@@ -10,7 +10,7 @@ use lib.Dec.{eqb}
 use borrow.Author.Tests.{eqb-true, eq-eqb}
 use Rattle.base.proofs.logic.Laws.{and-left, and-right}
 use Rattle.refusal.specs.declared.Refusal.{Refusal}
-use Rattle.refusal.specs.declared.Refusal.the-variants.{WrongCount, UnknownPart, StrapOutside, SharedAddress, WrongLength, UnknownKind, WrongValue, Clash, NotWellFormed, ShortBuffer, ShortText, BadRecord, WrongSum, UnknownType, PastArray, NoEnd}
+use Rattle.refusal.specs.declared.Refusal.the-variants.{WrongCount, UnknownPart, StrapOutside, SharedAddress, WrongLength, UnknownKind, WrongValue, Clash, NotWellFormed, ShortBuffer, ShortText, BadRecord, WrongSum, UnknownType, PastArray, NoEnd, NotBusy}
 use Rattle.refusal.specs.declared.Verdict.{Verdict}
 use Rattle.refusal.specs.declared.Verdict.the-variants.{Passed, Refused}
 use Rattle.refusal.specs.Refusal.{numberOf, statusOf}
@@ -56,6 +56,7 @@ number-some WrongSum = omega arith
 number-some UnknownType = omega arith
 number-some PastArray = omega arith
 number-some NoEnd = omega arith
+number-some NotBusy = omega arith
 
 -- so a verdict whose status is 00 has passed
 pub status-passed : (verdict : Verdict) → statusOf verdict ≡ 0 → verdict ≡ Passed

@@ -1,9 +1,9 @@
 -- The paper's number for each refusal, and its words for what set-up, step and run answer (paper, "Events and replies"; 19 to 24: request
--- E1). Number 9, a malformed line, is the transcript's.
+-- E1; 12: request E2). Number 9, a malformed line, is the transcript's.
 use Prim.Native.Nat.{ℕ}
 use Rattle.base.specs.Word.{wordOf}
 use Rattle.refusal.specs.declared.Refusal.{Refusal}
-use Rattle.refusal.specs.declared.Refusal.the-variants.{WrongCount, UnknownPart, StrapOutside, SharedAddress, WrongLength, UnknownKind, WrongValue, Clash, NotWellFormed, ShortBuffer, ShortText, BadRecord, WrongSum, UnknownType, PastArray, NoEnd}
+use Rattle.refusal.specs.declared.Refusal.the-variants.{WrongCount, UnknownPart, StrapOutside, SharedAddress, WrongLength, UnknownKind, WrongValue, Clash, NotWellFormed, ShortBuffer, ShortText, BadRecord, WrongSum, UnknownType, PastArray, NoEnd, NotBusy}
 use Rattle.refusal.specs.declared.Verdict.{Verdict}
 use Rattle.refusal.specs.declared.Verdict.the-variants.{Passed, Refused}
 use Rattle.refusal.specs.declared.Answer.{Answer}
@@ -26,6 +26,7 @@ numberOf WrongSum = 21
 numberOf UnknownType = 22
 numberOf PastArray = 23
 numberOf NoEnd = 24
+numberOf NotBusy = 12
 
 -- what checks say, as a status: 00 is done
 abbrev pub statusOf : Verdict → ℕ

@@ -23,7 +23,7 @@ pub enum Refusal {
     NotWellFormed,
     // An answer buffer shorter than the event list.
     ShortBuffer,
-    // A text buffer shorter than the text of an image (request E1, as all that follow).
+    // A text buffer shorter than the text of an image (request E1, as all that follow up to the end record).
     ShortText,
     // A bad digit or length in a record.
     BadRecord,
@@ -33,6 +33,8 @@ pub enum Refusal {
     PastArray,
     // No end record, or text after it.
     NoEnd,
+    // Cycle over at a chip that has none (request E2).
+    NotBusy,
 }
 
 // What an operation's checks say.
@@ -67,6 +69,7 @@ pub fn number_of(refusal: Refusal) -> u8
         Refusal::UnknownType => 22,
         Refusal::PastArray => 23,
         Refusal::NoEnd => 24,
+        Refusal::NotBusy => 12,
     }
 }
 

@@ -17,11 +17,12 @@ use Rattle.control.specs.declared.Said.the-variants.{Nothing, Ack}
 use Rattle.control.specs.Phase.{isBusy, isSending}
 use Rattle.chip.specs.declared.Chip.{Chip}
 use Rattle.chip.specs.declared.event.Event.the-variants.{Start, Sent}
+use Rattle.refusal.specs.declared.Verdict.the-variants.{Passed}
 use Rattle.refusal.specs.Refusal.{answerWord}
 use Rattle.board.specs.Place.{placed}
 use Rattle.decode.specs.declared.Addressed.the-variants.{ToAll}
 use Rattle.lineup.specs.Chips.{chipAt, controlAt}
-use Rattle.line.specs.Line.{clash, lineReply}
+use Rattle.line.specs.Line.{lineReply}
 use Rattle.bus.specs.Step.{played, step}
 use Rattle.bus.proofs.Entry.{Entered, entered}
 use Rattle.bus.proofs.Typed.{has-four}
@@ -36,7 +37,7 @@ use Rattle.turns.specs.Undisturbed.{acknowledge}
 use Rattle.turns.proofs.Asked.{start-asks, f8-asks}
 use Rattle.turns.proofs.Resting.{isHeeding, start-heeds, heeding-sends-nothing, f8-said}
 use Rattle.turns.proofs.Entering.{Entering, entering-kept}
-use Rattle.turns.proofs.Stepping.{step-plays, count-kept, each-moves}
+use Rattle.turns.proofs.Stepping.{lineVerdict, to-all-passes, step-plays, count-kept, each-moves}
 
 -- the answer to F8h straight after a Start, wherever it stands in a list of events
 abbrev pub Acknowledged : World → List ℕ → Type 0
@@ -78,8 +79,10 @@ module _ (world : World) (e : Entering world) (heeding : (i : ℕ) → i < world
           absurd (false≢true (ap isAck (rw busy at (sym (says i below) ∙ acked))))
       go (inr none) = none
 
-  calm : clash (Sent 0xF8) count chips ≡ false
-  calm = none-any (λ (i : ℕ). isSending (controlAt chips i .phase)) (placed count) (λ i below. heeding-sends-nothing (controlAt chips i .phase) (heeding i (omega (arith, entry .all-placed))))
+  calm : lineVerdict (ToAll (Sent 0xF8)) world ≡ Passed
+  calm =
+      to-all-passes world (Sent 0xF8)
+      (none-any (λ (i : ℕ). isSending (controlAt chips i .phase)) (placed count) (λ i below. heeding-sends-nothing (controlAt chips i .phase) (heeding i (omega (arith, entry .all-placed)))))
 
   f8-answered : (word : ℕ) → isF8 word ≡ true → answerTo step world word ≡ acknowledge (world .0)
   unfolding played
@@ -93,7 +96,7 @@ start-leaves : (world : World) (word : ℕ) → Entering world → isStart word 
     → (i : ℕ) → i < afterOne step world word .0 .count → isHeeding (controlAt (afterOne step world word .0 .chips) i .phase) ≡ true
 start-leaves world word e is i below =
     let legal = start-asks (world .0 .count) word is .0 in
-    let calm : clash Start (world .0 .count) (world .0 .chips) ≡ false = none-any (λ (i : ℕ). false) (placed (world .0 .count)) (λ i below. refl) in
+    let calm : lineVerdict (ToAll Start) world ≡ Passed = to-all-passes world Start (none-any (λ (i : ℕ). false) (placed (world .0 .count)) (λ i below. refl)) in
     ap (λ (w : World). isHeeding (controlAt (w .0 .chips) 0 .phase)) (each-moves world word (ToAll Start) e legal calm i (omega (arith, below, count-kept world word (ToAll Start) e legal)))
     ∙ start-heeds (chipAt (world .0 .chips) i) (alone i world .1) (alone i world .2)
 

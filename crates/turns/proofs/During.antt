@@ -14,11 +14,14 @@ use Rattle.chip.specs.declared.Chip.{Chip}
 use Rattle.chip.specs.declared.Stepped.{Stepped}
 use Rattle.chip.specs.Chip.{quiet}
 use Rattle.chip.specs.Chip as chip
+use Rattle.refusal.specs.declared.Refusal.{Refusal}
+use Rattle.refusal.specs.declared.Verdict.{Verdict}
+use Rattle.refusal.specs.declared.Verdict.the-variants.{Passed, Refused}
+use Rattle.refusal.specs.Checks.{isPassed}
 use Rattle.decode.specs.declared.Addressed.{Addressed}
 use Rattle.decode.specs.Decode.{reaches, eventOf}
 use Rattle.decode.specs.Hearing.{clashesWith}
 use Rattle.lineup.specs.Chips.{chipAt, controlAt, placesOf}
-use Rattle.line.specs.Line.{clash}
 use Rattle.bus.specs.Step.{step}
 use Rattle.promises.specs.Own.{own}
 use Rattle.promises.specs.Playing.{World, ledTo, afterOne, answerTo, after, answersTo}
@@ -26,10 +29,10 @@ use Rattle.turns.specs.Idle.{isAtRest}
 use Rattle.turns.specs.Turn.{isStart, isF8, Next, Anything, AddressByte, ChoiceByte}
 use Rattle.turns.specs.Shuffle.{isExcepted}
 use Rattle.turns.specs.Alone.{alone, renamed, onlyBus}
-use Rattle.turns.proofs.Asked.{Asked}
+use Rattle.turns.proofs.Asked.{only, Asked}
 use Rattle.turns.proofs.Entering.{Entering, entering-kept}
-use Rattle.turns.proofs.Stepping.{step-clashes, count-kept, board-kept, rest-kept, each-moves}
-use Rattle.turns.proofs.Event.{clash-is-its-own, alone-moves, answers-alike}
+use Rattle.turns.proofs.Stepping.{lineVerdict, step-refused, count-kept, board-kept, rest-kept, each-moves}
+use Rattle.turns.proofs.Event.{verdict-is-its-own, alone-moves, answers-alike}
 use Rattle.turns.proofs.Bystander.{whileAnothersTurn}
 use Rattle.turns.proofs.Resting.{isHeeding}
 
@@ -104,8 +107,9 @@ module _ (k : ℕ) (next next′ : Next) (began now : World) (below : k < began 
   abbrev chips : List Chip
   chips = now .0 .chips
 
-  abbrev phase : Phase
-  phase = controlAt chips k .phase
+  -- what refuses it is k's own
+  abbrev ownVerdict : Verdict
+  ownVerdict = lineVerdict (only addressed) (alone k now)
 
   abbrev taken : Stepped × List ℕ × List ℕ
   taken = chip.step (chipAt chips k) (alone k now .1) (alone k now .2) (eventOf addressed)
@@ -123,23 +127,26 @@ module _ (k : ℕ) (next next′ : Next) (began now : World) (below : k < began 
       → own addressed chips (now .1) (now .2) j ≡ (record { chip = whileAnothersTurn next′ (chipAt (began .0 .chips) j); said = says (chipAt (began .0 .chips) j) }, alone j began .1, alone j began .2)
   sat j before differ = ap (takes addressed j) (d .others j before differ) ∙ sit j before differ .1
 
-  turn-clash : clash (eventOf addressed) (now .0 .count) chips ≡ clashesWith (eventOf addressed) phase
-  turn-clash = clash-is-its-own now (d .entering) k below-now word addressed asked reached unclashing
+  turn-verdict : lineVerdict addressed now ≡ ownVerdict
+  turn-verdict = verdict-is-its-own now (d .entering) k below-now word addressed asked reached unclashing
+
+  stays-as-it-is : (refusal : Refusal) → lineVerdict addressed now ≡ Refused refusal → afterOne step now word ≡ now
+  stays-as-it-is refusal is = ap ledTo (step-refused now word addressed (d .entering) (asked .0) refusal is)
 
   -- k itself has made its own step
-  turn-taken : clash (eventOf addressed) (now .0 .count) chips ≡ false → chipAt (afterOne step now word .0 .chips) k ≡ taken .0 .chip
+  turn-taken : lineVerdict addressed now ≡ Passed → chipAt (afterOne step now word .0 .chips) k ≡ taken .0 .chip
   turn-taken is =
       ap (λ (w : World). chipAt (w .0 .chips) 0) (each-moves now word addressed (d .entering) (asked .0) is k below-now) ∙ rw reached
 
   -- it may be refused only where the next event may be anything
-  turn-goes-on : (clashesWith (eventOf addressed) phase ≡ true → next ≡ next′) → Heeds next′ (taken .0 .chip .control .phase) → During k next′ began (afterOne step now word)
-  turn-goes-on refusable heeding = go (clash (eventOf addressed) (now .0 .count) chips) refl
+  turn-goes-on : ((refusal : Refusal) → ownVerdict ≡ Refused refusal → next ≡ next′) → Heeds next′ (taken .0 .chip .control .phase) → During k next′ began (afterOne step now word)
+  turn-goes-on refusable heeding = go (lineVerdict addressed now) refl
     where
-      go : (b : Bool) → clash (eventOf addressed) (now .0 .count) chips ≡ b → During k next′ began (afterOne step now word)
-      go true is =
-          subst (λ (n : Next). During k n began (afterOne step now word)) (refusable (sym turn-clash ∙ is))
-          (subst (λ (w : World). During k next began w) (sym (ap ledTo (step-clashes now word addressed (d .entering) (asked .0) is))) d)
-      go false is =
+      go : (v : Verdict) → lineVerdict addressed now ≡ v → During k next′ began (afterOne step now word)
+      go (Refused refusal) is =
+          subst (λ (n : Next). During k n began (afterOne step now word)) (refusable refusal (sym turn-verdict ∙ is))
+          (subst (λ (w : World). During k next began w) (sym (stays-as-it-is refusal is)) d)
+      go Passed is =
           record {
             entering = entering-kept now word (d .entering);
             count = count-kept now word addressed (d .entering) (asked .0) ∙ d .count;
@@ -151,10 +158,18 @@ module _ (k : ℕ) (next next′ : Next) (began now : World) (below : k < began 
                 ∙ ap (λ (x : Stepped × List ℕ × List ℕ). (onlyBus (x .0 .chip), x .1, x .2)) (sat j before differ);
           }
 
+  -- k is at rest where it was so and the event is refused, or its own step leaves it so
+  turn-rests : ((refusal : Refusal) → ownVerdict ≡ Refused refusal → isAtRest (chipAt chips k) ≡ true) → isAtRest (taken .0 .chip) ≡ true → isAtRest (chipAt (afterOne step now word .0 .chips) k) ≡ true
+  turn-rests stays moves = go (lineVerdict addressed now) refl
+    where
+      go : (v : Verdict) → lineVerdict addressed now ≡ v → isAtRest (chipAt (afterOne step now word .0 .chips) k) ≡ true
+      go (Refused refusal) is = subst (λ (w : World). isAtRest (chipAt (w .0 .chips) k) ≡ true) (sym (stays-as-it-is refusal is)) (stays refusal (sym turn-verdict ∙ is))
+      go Passed is = subst (λ (c : Chip). isAtRest c ≡ true) (sym (turn-taken is)) moves
+
   module _ (started : Bool) (usual : (started && isF8 word) ≡ false → (c : Chip) → says c ≡ Nothing) where
     pub event-goes : (more : List ℕ)
         → (During k next′ began (afterOne step now word) → Went k (isStart word) more began (afterOne step now word))
-        → (clashesWith (eventOf addressed) (controlAt (now .0 .chips) k .phase) ≡ true → next ≡ next′)
+        → ((refusal : Refusal) → lineVerdict (only addressed) (alone k now) ≡ Refused refusal → next ≡ next′)
         → Heeds next′ (chip.step (chipAt (now .0 .chips) k) (alone k now .1) (alone k now .2) (eventOf addressed) .0 .chip .control .phase)
         → Went k started (word ∷ more) began now
     event-goes more later refusable heeding =
@@ -164,26 +179,27 @@ module _ (k : ℕ) (next next′ : Next) (began now : World) (below : k < began 
         ap (λ (x : Stepped × List ℕ × List ℕ). x .0 .said) (sat j (omega (arith, before, d .count)) differ) ∙ usual none _)
         (later (turn-goes-on refusable heeding))
 
-    -- one that k cannot clash with
+    -- one that k does not refuse
     pub calm-goes : (more : List ℕ)
         → (During k next′ began (afterOne step now word) → Went k (isStart word) more began (afterOne step now word))
-        → clashesWith (eventOf addressed) (controlAt (now .0 .chips) k .phase) ≡ false
+        → lineVerdict (only addressed) (alone k now) ≡ Passed
         → Heeds next′ (chip.step (chipAt (now .0 .chips) k) (alone k now .1) (alone k now .2) (eventOf addressed) .0 .chip .control .phase)
         → Went k started (word ∷ more) began now
-    calm-goes more later calm = event-goes more later (λ clashes. absurd (true≢false (sym clashes ∙ calm)))
+    calm-goes more later calm = event-goes more later (λ refusal is. absurd (true≢false (ap isPassed (sym calm ∙ is))))
 
     -- the last one, which leaves k at rest
-    pub last-goes : Anything ≡ next′ → clashesWith (eventOf addressed) (controlAt (now .0 .chips) k .phase) ≡ false
+    pub last-goes : Anything ≡ next′
+        → ((refusal : Refusal) → lineVerdict (only addressed) (alone k now) ≡ Refused refusal → (next ≡ next′) × (isAtRest (chipAt (now .0 .chips) k) ≡ true))
         → isAtRest (chip.step (chipAt (now .0 .chips) k) (alone k now .1) (alone k now .2) (eventOf addressed) .0 .chip) ≡ true
         → Went k started (word ∷ []) began now
     unfolding after answersTo
-    last-goes free calm rests =
-        calm-goes [] (λ ended.
+    last-goes free refusable rests =
+        event-goes [] (λ ended.
         record {
           ended = subst (λ (n : Next). During k n began (afterOne step now word)) (sym free) ended;
-          rests = subst (λ (c : Chip). isAtRest c ≡ true) (sym (turn-taken (turn-clash ∙ calm))) rests;
+          rests = turn-rests (λ refusal is. refusable refusal is .1) rests;
           moves = refl;
           answers = λ i plain. refl;
         })
-        calm
+        (λ refusal is. refusable refusal is .0)
         (subst (λ (n : Next). Heeds n (taken .0 .chip .control .phase)) free tt)

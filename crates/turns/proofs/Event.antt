@@ -1,10 +1,11 @@
--- One event of chip k's turn, on the line and renamed on a line of k alone. Where no other chip clashes with it, it is refused on both or
--- on neither; k takes it alike; and where no other chip says anything, the answers are the same.
+-- One event of chip k's turn, on the line and renamed on a line of k alone. Where no other chip clashes with it, it is refused on both,
+-- with the same number, or on neither; k takes it alike; and where no other chip says anything, the answers are the same.
 use Prim.Native.Nat.{ℕ, _<_}
 use native.Mathlib.Omega.{arith}
 use mathlib.Core.Bool.{Bool, true, false, or-false}
-use mathlib.Core.List.{List}
+use mathlib.Core.List.{List, [], _∷_}
 use mathlib.Core.Path.{_≡_, _∙_, refl, sym, ap}
+use borrow.Author.Tests.{eqb-true}
 use Rattle.base.specs.Fold.{upTo}
 use Rattle.base.specs.Word.{wordOf}
 use Rattle.base.proofs.Fold.{any-one}
@@ -13,15 +14,20 @@ use Rattle.control.specs.declared.Said.the-variants.{Nothing}
 use Rattle.chip.specs.declared.Chip.{Chip}
 use Rattle.chip.specs.declared.Stepped as chips-own
 use Rattle.chip.specs.Chip as chip
-use Rattle.refusal.specs.declared.Refusal.the-variants.{Clash}
+use Rattle.chip.specs.declared.event.Event.{Event}
+use Rattle.refusal.specs.declared.Refusal.{Refusal}
+use Rattle.refusal.specs.declared.Refusal.the-variants.{NotBusy, Clash}
+use Rattle.refusal.specs.declared.Verdict.{Verdict}
+use Rattle.refusal.specs.declared.Verdict.the-variants.{Passed, Refused}
 use Rattle.refusal.specs.Refusal.{answerWord}
+use Rattle.refusal.specs.Checks.{firstOf}
 use Rattle.board.specs.Place.{placed}
 use Rattle.decode.specs.declared.Addressed.{Addressed}
 use Rattle.decode.specs.declared.Addressed.the-variants.{ToAll, ToOne}
 use Rattle.decode.specs.Decode.{reaches, eventOf}
-use Rattle.decode.specs.Hearing.{clashesWith}
+use Rattle.decode.specs.Hearing.{lacksCycle, clashesWith}
 use Rattle.lineup.specs.Chips.{chipAt, controlAt}
-use Rattle.line.specs.Line.{clash, play, lineReply}
+use Rattle.line.specs.Line.{notBusy, clash, play, lineReply}
 use Rattle.bus.specs.declared.Stepped.{Stepped}
 use Rattle.bus.specs.Step.{refused, played, step}
 use Rattle.bus.proofs.Entry.{Entered, entered}
@@ -35,7 +41,7 @@ use Rattle.turns.proofs.Asked.{only, Asked}
 use Rattle.turns.proofs.Alone.{alone-plays, shares-fit, alone-enters}
 use Rattle.turns.proofs.Typed.{alone-typed}
 use Rattle.turns.proofs.Entering.{Entering}
-use Rattle.turns.proofs.Stepping.{step-clashes, step-plays, each-moves}
+use Rattle.turns.proofs.Stepping.{lineVerdict, to-all-passes, step-refused, step-plays, each-moves}
 
 event-only : (addressed : Addressed) → eventOf (only addressed) ≡ eventOf addressed
 event-only (ToAll event) = refl
@@ -44,6 +50,11 @@ event-only (ToOne named event) = refl
 reaches-only : (addressed : Addressed) → reaches (only addressed) 0 ≡ true
 reaches-only (ToAll event) = refl
 reaches-only (ToOne named event) = refl
+
+-- alone, an event to all is refused only where it clashes with the chip
+pub calm-alone : (k : ℕ) (world : World) (event : Event) → clashesWith event (controlAt (world .0 .chips) k .phase) ≡ false → lineVerdict (ToAll event) (alone k world) ≡ Passed
+unfolding upTo
+calm-alone k world event calm = to-all-passes (alone k world) event (or-false _ ∙ calm)
 
 module _ (world : World) (e : Entering world) (k : ℕ) (below : k < world .0 .count) (word : ℕ) (addressed : Addressed) (asked : Asked (world .0 .count) word addressed) (reached : reaches addressed k ≡ true) (unclashing : (j : ℕ) → j < world .0 .count → (j ≡ k → ⊥) → clashesWith (eventOf addressed) (controlAt (world .0 .chips) j .phase) ≡ false) where
   abbrev count : ℕ
@@ -64,8 +75,16 @@ module _ (world : World) (e : Entering world) (k : ℕ) (below : k < world .0 .c
   by-itself : Entering (alone k world)
   by-itself = record { typed = alone-typed world k (omega (arith, below, entry .chips-most)) (e .typed); enters = alone-enters world (e .enters) k below }
 
-  -- refusal 8 is k's own, on both
-  pub clash-is-its-own : clash (eventOf addressed) (world .0 .count) (world .0 .chips) ≡ clashesWith (eventOf addressed) (controlAt (world .0 .chips) k .phase)
+  -- refusal 12 is that of the chip named, which is k
+  not-busy-alone : notBusy (only addressed) (onlyBus c .chips) ≡ notBusy addressed chips
+  not-busy-alone = go addressed reached
+    where
+      go : (a : Addressed) → reaches a k ≡ true → notBusy (only a) (onlyBus c .chips) ≡ notBusy a chips
+      go (ToAll event) is = refl
+      go (ToOne named event) is = ap (λ (i : ℕ). lacksCycle event (controlAt chips i .phase)) (eqb-true k named is)
+
+  -- refusal 8 is k's, since no other clashes
+  clash-is-its-own : clash (eventOf addressed) count chips ≡ clashesWith (eventOf addressed) (controlAt chips k .phase)
   clash-is-its-own =
       any-one (λ (i : ℕ). clashesWith (eventOf addressed) (controlAt chips i .phase)) (placed count) k (omega (arith, entry .all-placed))
       (λ j before. unclashing j (omega (arith, entry .all-placed)))
@@ -74,23 +93,29 @@ module _ (world : World) (e : Entering world) (k : ℕ) (below : k < world .0 .c
   unfolding upTo
   clash-alone = rw (event-only addressed) (or-false _ ∙ sym clash-is-its-own)
 
-  -- so what is the same of both refused, and of both played, is the same of both
+  -- so the line says of it what it says of k alone
+  pub verdict-is-its-own : lineVerdict addressed world ≡ lineVerdict (only addressed) (alone k world)
+  verdict-is-its-own =
+      ap (λ (free : Bool). firstOf ((free, NotBusy) ∷ (clash (eventOf addressed) count chips, Clash) ∷ [])) (sym not-busy-alone)
+      ∙ ap (λ (clashes : Bool). firstOf ((notBusy (only addressed) (onlyBus c .chips), NotBusy) ∷ (clashes, Clash) ∷ [])) (sym clash-alone)
+
+  -- and what is the same of both refused, and of both played, is the same of both
   both-step : {A : Type 0} (f g : Made → A)
-      → f (refused Clash (world .0) (world .1) (world .2)) ≡ g (refused Clash (alone k world .0) (alone k world .1) (alone k world .2))
-      → (clash (eventOf addressed) count chips ≡ false
+      → ((refusal : Refusal) → f (refused refusal (world .0) (world .1) (world .2)) ≡ g (refused refusal (alone k world .0) (alone k world .1) (alone k world .2)))
+      → (lineVerdict addressed world ≡ Passed
       → f (played addressed (world .0) (world .1) (world .2)) ≡ g (played (only addressed) (alone k world .0) (alone k world .1) (alone k world .2)))
       → f (stepped step world word) ≡ g (stepped step (alone k world) (renamed word))
-  both-step {A} f g refusing playing = go (clash (eventOf addressed) count chips) refl
+  both-step {A} f g refusing playing = go (lineVerdict addressed world) refl
     where
-      go : (b : Bool) → clash (eventOf addressed) count chips ≡ b → f (stepped step world word) ≡ g (stepped step (alone k world) (renamed word))
-      go true is =
-          ap f (step-clashes world word addressed e (asked .0) is)
-          ∙ refusing
-          ∙ sym (ap g (step-clashes (alone k world) (renamed word) (only addressed) by-itself (asked .1) (clash-alone ∙ is)))
-      go false is =
+      go : (v : Verdict) → lineVerdict addressed world ≡ v → f (stepped step world word) ≡ g (stepped step (alone k world) (renamed word))
+      go (Refused refusal) is =
+          ap f (step-refused world word addressed e (asked .0) refusal is)
+          ∙ refusing refusal
+          ∙ sym (ap g (step-refused (alone k world) (renamed word) (only addressed) by-itself (asked .1) refusal (sym verdict-is-its-own ∙ is)))
+      go Passed is =
           ap f (step-plays world word addressed e (asked .0) is)
           ∙ playing is
-          ∙ sym (ap g (step-plays (alone k world) (renamed word) (only addressed) by-itself (asked .1) (clash-alone ∙ is)))
+          ∙ sym (ap g (step-plays (alone k world) (renamed word) (only addressed) by-itself (asked .1) (sym verdict-is-its-own ∙ is)))
 
   -- played alone, k has made its own step
   alone-played : play (only addressed) 1 (onlyBus c .chips) (alone k world .1) (alone k world .2) ≡ (record { chips = onlyBus (taken .0 .chip) .chips; said = taken .0 .said }, taken .1, taken .2)
@@ -101,7 +126,7 @@ module _ (world : World) (e : Entering world) (k : ℕ) (below : k < world .0 .c
   pub alone-moves : alone k (afterOne step world word) ≡ afterOne step (alone k world) (renamed word)
   unfolding played
   alone-moves =
-      both-step (λ next. alone k (ledTo next)) ledTo refl λ is.
+      both-step (λ next. alone k (ledTo next)) ledTo (λ refusal. refl) λ is.
       sym (ap (λ next. alone k (ledTo next)) (step-plays world word addressed e (asked .0) is))
       ∙ each-moves world word addressed e (asked .0) is k below
       ∙ rw (reached, alone-played)
@@ -111,7 +136,7 @@ module _ (world : World) (e : Entering world) (k : ℕ) (below : k < world .0 .c
       → answerTo step world word ≡ answerTo step (alone k world) (renamed word)
   unfolding played
   answers-alike silent =
-      both-step (λ next. answerWord (next .0 .answer)) (λ next. answerWord (next .0 .answer)) refl λ is.
+      both-step (λ next. answerWord (next .0 .answer)) (λ next. answerWord (next .0 .answer)) (λ refusal. refl) λ is.
       ap (λ (said : Said). wordOf 0 (lineReply (eventOf addressed) said)) heard-alone ∙ rw (event-only addressed, alone-played)
     where
       heard-alone : play addressed count chips (world .1) (world .2) .0 .said ≡ taken .0 .said

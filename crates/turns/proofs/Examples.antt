@@ -1,5 +1,5 @@
 -- What demand 3 supposes can be met: a board of mixed parts, a list of turns on it with much of what a turn may hold, and a shuffle of
--- the list. On a smaller board the answers are computed, a refusal 8 among them.
+-- the list. On a smaller board the answers are computed, refusals 8 and 12 among them.
 use Prim.Native.Nat.{ℕ, zero, suc, _+_, _<_, _≤_, _^_}
 use native.Mathlib.Omega.{arith}
 use mathlib.Core.Bool.{true, false}
@@ -226,6 +226,9 @@ secondClashes = of 1 (0x0100 ∷ 0x03A3 ∷ 0x0300 ∷ 0x0401 ∷ 0x0200 ∷ [])
 abbrev toEach : List Turn → List ℕ → List (List ℕ) × List (List ℕ)
 toEach list answers = (answersOf 0 list answers, answersOf 1 list answers)
 
+by-events : (world : World) → Entering world → (list : List Turn) → toEach list (answersTo step world (eventsOf list)) ≡ toEach list (answersTo event world (eventsOf list))
+by-events world e list = ap (toEach list) (computed none none-keeps world e (eventsOf list) .1)
+
 abbrev Answered : List Turn → Type 0
 Answered list =
     toEach list (answersTo step (pair free free) (eventsOf list))
@@ -233,7 +236,30 @@ Answered list =
 
 pub answers-in-both-orders : Answered (firstReads ∷ secondClashes ∷ []) × Answered (secondClashes ∷ firstReads ∷ [])
 unfolding eventByEvent
-answers-in-both-orders = (by-events (firstReads ∷ secondClashes ∷ []), by-events (secondClashes ∷ firstReads ∷ []))
-  where
-    by-events : (list : List Turn) → toEach list (answersTo step (pair free free) (eventsOf list)) ≡ toEach list (answersTo event (pair free free) (eventsOf list))
-    by-events list = ap (toEach list) (computed none none-keeps (pair free free) (pairs-idle .0 .entering) (eventsOf list) .1)
+answers-in-both-orders =
+    let answers = by-events (pair free free) (pairs-idle .0 .entering) in
+    (answers (firstReads ∷ secondClashes ∷ []), answers (secondClashes ∷ firstReads ∷ []))
+
+-- the cycle of the first is over
+abbrev firstEnds : Turn
+firstEnds = of 0 (0x0700 ∷ [])
+
+-- cycle over at the second, which has none, by itself and amid a read: refusal 12
+abbrev secondEndsNone : Turn
+secondEndsNone = of 1 (0x0701 ∷ [])
+
+abbrev secondReads : Turn
+secondReads = of 1 (0x0100 ∷ 0x03A3 ∷ 0x0701 ∷ 0x0401 ∷ 0x0200 ∷ [])
+
+-- while the first is busy and after it; and so is a second 07 at the first
+abbrev Refuses : List Turn → Type 0
+Refuses list =
+    Turns (pair busy free) list
+    × (toEach list (answersTo step (pair busy free) (eventsOf list))
+    ≡ ((0x0000 ∷ []) ∷ (0x0C00 ∷ []) ∷ [], (0x0C00 ∷ []) ∷ (0x0000 ∷ 0x0001 ∷ 0x0C00 ∷ 0x00FF ∷ 0x0000 ∷ []) ∷ []))
+
+pub refused-in-both-orders : Refuses (secondEndsNone ∷ secondReads ∷ firstEnds ∷ firstEnds ∷ []) × Refuses (firstEnds ∷ secondEndsNone ∷ firstEnds ∷ secondReads ∷ [])
+unfolding eventByEvent
+refused-in-both-orders =
+    let answers = by-events (pair busy free) (pairs-idle .1 .entering) in
+    ((refl, answers (secondEndsNone ∷ secondReads ∷ firstEnds ∷ firstEnds ∷ [])), (refl, answers (firstEnds ∷ secondEndsNone ∷ firstEnds ∷ secondReads ∷ [])))

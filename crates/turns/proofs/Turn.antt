@@ -1,20 +1,17 @@
 -- The events of a turn of chip k, one after the other: each is one that the others sit through, and the last leaves k at rest.
 use Prim.Native.Nat.{ℕ, _<_}
 use native.Mathlib.Omega.{arith}
-use mathlib.Core.Bool.{Bool, true, false, true≢false, false≢true}
+use mathlib.Core.Bool.{Bool, true, false, true≢false}
 use mathlib.Core.List.{List, [], _∷_}
-use mathlib.Core.Path.{_≡_, refl}
+use mathlib.Core.Path.{_≡_, _∙_, refl, sym, ap}
 use borrow.Author.Tests.{eq-eqb}
-use Rattle.control.specs.declared.phase.Phase.{Phase}
-use Rattle.chip.specs.declared.event.Event.{Event}
-use Rattle.chip.specs.declared.event.Event.the-variants.{Start, Stop, Sent, Read, Wp, CycleOver, PowerUp}
+use Rattle.chip.specs.declared.event.Event.the-variants.{Start, Stop, Sent}
+use Rattle.refusal.specs.Checks.{isPassed}
 use Rattle.board.specs.declared.Place.{Place}
 use Rattle.decode.specs.declared.Addressed.{Addressed}
 use Rattle.decode.specs.declared.Addressed.the-variants.{ToAll, ToOne}
 use Rattle.decode.specs.Decode.{valueOf, reaches}
-use Rattle.decode.specs.Hearing.{clashesWith}
 use Rattle.lineup.specs.Chips.{chipAt, controlAt}
-use Rattle.promises.proofs.Keeping.Beside.{isNamed}
 use Rattle.bus.specs.Step.{step}
 use Rattle.bus.proofs.Entry.{entered}
 use Rattle.promises.specs.Playing.{World, afterOne}
@@ -23,6 +20,7 @@ use Rattle.turns.specs.Turn.{isStart, isStop, isSent, isF8, isNaming, is
 use Rattle.turns.specs.Alone.{alone}
 use Rattle.turns.proofs.Asked.{Asked, start-asks, stop-asks, sent-asks, f8-asks, read-asks, naming-asks}
 use Rattle.turns.proofs.Resting.{stop-rests, named-rests, start-heeds, f8-heeds, heeding-sends-nothing}
+use Rattle.turns.proofs.Event.{calm-alone}
 use Rattle.turns.proofs.During.{During, SitsThrough, Went, event-goes, calm-goes, last-goes}
 use Rattle.turns.proofs.Others.{silent, toF8, Others, sits-start, sits-stop, sits-byte, sits-read, sits-named, sits-first, sits-f8, sits-choice}
 use Rattle.turns.proofs.Grammar.{Cases}
@@ -44,27 +42,18 @@ module _ (k : ℕ) (place : Place) (began : World) (b : Others k place began) wh
       last-goes k Anything Anything began now (b .below) d word (ToAll Stop) (stop-asks (now .0 .count) word is) refl silent (sits-stop k place began b) started
       (λ none c. refl)
       refl
-      refl
+      (λ refusal is. absurd (true≢false (ap isPassed (sym (calm-alone k now Stop refl) ∙ is))))
       (stop-rests _ _ _ (formed-of (now .0 .count) (now .0 .chips) (entry .formed) .fit k (omega (arith, b .below, d .count, entry .all-placed))))
 
-  -- an event by itself that names k
+  -- an event by itself that names k: refused it leaves k as it was
   pub named-leads : (word : ℕ) → isNaming k word ≡ true → During k Anything began began → Went k false (word ∷ []) began began
   named-leads word is d =
       let (event, (named, asked)) = naming-asks (began .0 .count) k word (b .below) is in
       last-goes k Anything Anything began began (b .below) d word (ToOne k event) asked (eq-eqb k k refl) silent (λ j before differ. sits-named k place began b j before differ event) false
       (λ none c. refl)
       refl
-      (calm event named _)
+      (λ refusal is. (refl, b .at-rest k (b .below)))
       (named-rests _ _ _ event named (b .at-rest k (b .below)))
-    where
-      calm : (event : Event) → isNamed event ≡ true → (phase : Phase) → clashesWith event phase ≡ false
-      calm Start named phase = refl
-      calm Stop named phase = refl
-      calm (Sent byte) named phase = absurd (false≢true named)
-      calm (Read nack) named phase = absurd (false≢true named)
-      calm (Wp level) named phase = refl
-      calm CycleOver named phase = refl
-      calm PowerUp named phase = refl
 
   module _ (word : ℕ) (more : List ℕ) where
     start-leads : isStart word ≡ true → Leads AddressByte more → Leads Anything (word ∷ more)
@@ -73,7 +62,7 @@ module _ (k : ℕ) (place : Place) (began : World) (b : Others k place began) wh
         (λ none c. refl)
         more
         (later (isStart word) (afterOne step now word) is)
-        refl
+        (calm-alone k now Start refl)
         (start-heeds (chipAt (now .0 .chips) k) (alone k now .1) (alone k now .2))
 
     -- between, refused or not
@@ -85,7 +74,7 @@ module _ (k : ℕ) (place : Place) (began : World) (b : Others k place began) wh
         (λ none c. refl)
         more
         (later (isStart word) (afterOne step now word) tt)
-        (λ clashes. refl)
+        (λ refusal is. refl)
         tt
 
     naming-leads : isNaming k word ≡ true → Leads Anything more → Leads Anything (word ∷ more)
@@ -99,7 +88,7 @@ module _ (k : ℕ) (place : Place) (began : World) (b : Others k place began) wh
         (λ none c. refl)
         more
         (later (isStart word) (afterOne step now word) tt)
-        (heeding-sends-nothing (controlAt (now .0 .chips) k .phase) (d .heeds))
+        (calm-alone k now (Sent (valueOf word)) (heeding-sends-nothing (controlAt (now .0 .chips) k .phase) (d .heeds)))
         tt
 
     -- the one event to which other chips answer
@@ -109,7 +98,7 @@ module _ (k : ℕ) (place : Place) (began : World) (b : Others k place began) wh
         (λ none. absurd (true≢false (rw (flag, is) at none)))
         more
         (later (isStart word) (afterOne step now word) tt)
-        (heeding-sends-nothing (controlAt (now .0 .chips) k .phase) (d .heeds))
+        (calm-alone k now (Sent 0xF8) (heeding-sends-nothing (controlAt (now .0 .chips) k .phase) (d .heeds)))
         (f8-heeds (chipAt (now .0 .chips) k) (alone k now .1) (alone k now .2) (d .heeds))
 
     choice-leads : isSent word ≡ true → isAddressOf 0b1010 place (valueOf word) ≡ true → Leads Anything more → Leads ChoiceByte (word ∷ more)
@@ -118,7 +107,7 @@ module _ (k : ℕ) (place : Place) (began : World) (b : Others k place began) wh
         (λ none c. refl)
         more
         (later (isStart word) (afterOne step now word) tt)
-        (d .heeds)
+        (calm-alone k now (Sent (valueOf word)) (d .heeds))
         tt
 
   pub each-leads : Cases place k Leads

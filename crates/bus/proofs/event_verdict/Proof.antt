@@ -1,18 +1,17 @@
--- The word's checks first; where they pass, check 8.
-use Rattle.refusal.specs.declared.Refusal.the-variants.{Clash}
-use Rattle.refusal.specs.declared.Verdict.the-variants.{Passed, Refused}
-use Rattle.decode.specs.Decode.{addressedOf, eventOf}
-use Rattle.chip.specs.declared.event.Event.{Event}
-use Rattle.line.specs.Line.{clash}
-use mathlib.Core.Bool.{Bool, cond}
-use mathlib.Core.List.{[], _∷_}
-use mathlib.Core.Path.{_≡_, ap}
-use Rattle.refusal.proofs.Checks.{refused-first, passed-first}
-use Rattle.decode.specs.Decode.{decodeChecks}
-use mathlib.Core.Path.{_∙_, sym}
+-- The word's checks first; where they pass, those of the line.
+use mathlib.Core.Path.{_∙_, sym, ap}
 use borrow.Author.Needs.{needs}
+use Rattle.refusal.specs.Checks.{firstOf}
+use Rattle.refusal.proofs.Checks.{Checks, refused-first, passed-first}
+use Rattle.decode.specs.declared.Addressed.{Addressed}
+use Rattle.decode.specs.Decode.{decodeChecks, addressedOf}
+use Rattle.line.specs.Line.{lineChecks}
+use Rattle.bus.specs.declared.Bus.{Bus}
 use Rattle.bus.proofs.event_verdict.Statement.{statement}
 use Rattle.bus.proofs.event_verdict.Tie as tie
+
+abbrev onLine : Bus → Addressed → Checks
+onLine bus addressed = lineChecks addressed (bus .count) (bus .chips)
 
 decode-verdict-requires : tie.Need-decode-verdict-requires
 decode-verdict-requires c κs = search needs
@@ -26,27 +25,22 @@ enum-told c = search needs
 addressed-of-requires : tie.Need-addressed-of-requires
 addressed-of-requires c κs = search needs
 
-event-of-requires : tie.Need-event-of-requires
-event-of-requires c κs = search needs
-
-clash-requires : tie.Need-clash-requires
-clash-requires c κs = search needs
+line-verdict-requires : tie.Need-line-verdict-requires
+line-verdict-requires c κs = search needs
 
 returns : tie.Need-returns
-returns c = let a = c .before .before .before .before .args in
-    sym (refused-first (decodeChecks (a .bus .count) (a .word)) ((clash (eventOf (addressedOf (a .word))) (a .bus .count) (a .bus .chips), Clash) ∷ []) _ (sym (c .before .before .before .decode-verdict .ensures) ∙ c .before .verdict .given .1))
+returns c =
+    let decoded = c .before .before .before in
+    let a = decoded .before .args in
+    sym (refused-first (decodeChecks (a .bus .count) (a .word)) (onLine (a .bus) (addressedOf (a .word))) _ (sym (decoded .decode-verdict .ensures) ∙ c .before .verdict .given .1))
 
 returns-2 : tie.Need-returns-2
-returns-2 c = let a = c .before .before .before .before .before .before .before .before .args in
-    let event : c .before .before .event-of .result ≡ eventOf (addressedOf (a .word)) = c .before .before .event-of .ensures ∙ ap eventOf (c .before .before .before .addressed-of .ensures) in
-    sym (passed-first (decodeChecks (a .bus .count) (a .word)) ((clash (eventOf (addressedOf (a .word))) (a .bus .count) (a .bus .chips), Clash) ∷ []) (sym (c .before .before .before .before .before .before .before .decode-verdict .ensures) ∙ c .before .before .before .before .before .enum-told .given .1)
-    ∙ ap (λ (clashes : Bool). cond clashes (Refused Clash) Passed) (ap (λ (e : Event). clash e (a .bus .count) (a .bus .chips)) (sym event) ∙ sym (c .before .clash .ensures) ∙ c .if1 .taken))
-
-returns-3 : tie.Need-returns-3
-returns-3 c = let a = c .before .before .before .before .before .before .before .before .args in
-    let event : c .before .before .event-of .result ≡ eventOf (addressedOf (a .word)) = c .before .before .event-of .ensures ∙ ap eventOf (c .before .before .before .addressed-of .ensures) in
-    sym (passed-first (decodeChecks (a .bus .count) (a .word)) ((clash (eventOf (addressedOf (a .word))) (a .bus .count) (a .bus .chips), Clash) ∷ []) (sym (c .before .before .before .before .before .before .before .decode-verdict .ensures) ∙ c .before .before .before .before .before .enum-told .given .1)
-    ∙ ap (λ (clashes : Bool). cond clashes (Refused Clash) Passed) (ap (λ (e : Event). clash e (a .bus .count) (a .bus .chips)) (sym event) ∙ sym (c .before .clash .ensures) ∙ c .if1 .left))
+returns-2 c =
+    let decoded = c .before .before .before .before .before in
+    let a = decoded .before .args in
+    c .line-verdict .ensures
+    ∙ ap (λ (addressed : Addressed). firstOf (onLine (a .bus) addressed)) (c .before .addressed-of .ensures)
+    ∙ sym (passed-first (decodeChecks (a .bus .count) (a .word)) (onLine (a .bus) (addressedOf (a .word))) (sym (decoded .decode-verdict .ensures) ∙ c .before .before .before .enum-told .given .1))
 
 pub event-verdict-spec : {M : Type 1} → statement M
 event-verdict-spec =
@@ -56,8 +50,6 @@ event-verdict-spec =
     enum-known-verdict
     enum-told
     addressed-of-requires
-    event-of-requires
-    clash-requires
+    line-verdict-requires
     returns
-    returns-2
-    returns-3)
+    returns-2)

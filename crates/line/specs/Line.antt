@@ -36,7 +36,7 @@ notBusy (ToOne named event) chips = lacksCycle event (controlAt chips named .pha
 abbrev pub clash : Event → ℕ → List Chip → Bool
 clash event count chips = anyBelow (λ (i : ℕ). clashesWith event (controlAt chips i .phase)) (placed count)
 
--- what the chips can refuse: 12, then 8
+-- what is checked on the line: 12, then 8
 abbrev pub lineChecks : Addressed → ℕ → List Chip → List (Bool × Refusal)
 lineChecks addressed count chips = (notBusy addressed chips, NotBusy) ∷ (clash (eventOf addressed) count chips, Clash) ∷ []
 

@@ -1,12 +1,11 @@
 -- A value of the type `Bus`, by the relation that the checker itself has between values and what they denote: its count fits, it has four
--- places, and each holds a value of the type `Chip`; so there are 256 marks in the load of each.
+-- places, and each holds a value of the type `Chip`.
 use Prim.Native.Nat.{ℕ, _<_, _^_}
 use native.Mathlib.Omega.{arith}
 use mathlib.Core.List.{List}
 use mathlib.Core.Path.{_≡_, _∙_, refl, sym}
 use lib.ListN.{length, length-map}
 use mir.Val.{Val}
-use borrow.Author.Needs.{length-unmapped}
 use denote.Laws.{Is}
 use denote.Struct.Declared.{shape}
 use denote.Struct.Struct.{Struct}
@@ -42,6 +41,3 @@ bus-typed count chips fits four typed =
 -- one of its chips
 pub chip-typed : {bus : Bus} → OfItsType bus → (i : ℕ) → i < 4 → ChipTyped (chipAt (bus .chips) i)
 chip-typed {bus} typed i below = every-below ChipTyped (bus .chips) i noChip (every-typed typed) (omega (arith, has-four typed))
-
-pub has-marks : {bus : Bus} → OfItsType bus → (i : ℕ) → i < 4 → length (chipAt (bus .chips) i .load .marks) ≡ 256
-has-marks {bus} typed i below = length-unmapped _ (chipAt (bus .chips) i .load .marks) 256 (chip-typed typed i below .is .1 .1 .1 .0 .1 .1 .0 .1 .0 .1)

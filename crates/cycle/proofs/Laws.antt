@@ -1,14 +1,22 @@
--- What a Stop comes to, by the phase: it ends data, a busy chip takes no notice, and in any other phase the chip goes to standby.
-use Prim.Native.Nat.{ℕ}
+-- What a Stop comes to, by the phase: it ends data, a busy chip takes no notice, and in any other phase the chip goes to standby. And what it
+-- stores: what was loaded, laid on the page of the counter.
+use Prim.Native.Nat.{ℕ, _*_}
+use mathlib.Core.Bool.{Bool, true, false, cond}
 use mathlib.Core.List.{List}
 use mathlib.Core.Path.{_≡_, refl}
+use Rattle.parts.specs.declared.part.Geometry.{Geometry}
+use Rattle.parts.specs.Part.{geometryOf}
+use Rattle.regions.specs.Page.{pageOf}
 use Rattle.load.specs.declared.Load.{Load}
+use Rattle.load.specs.Load.{storePage}
+use Rattle.load.specs.Choice.{choiceOf, laid}
+use Rattle.load.proofs.Laws.{stored-laid}
 use Rattle.control.specs.declared.Control.{Control}
 use Rattle.control.specs.declared.phase.Phase.{Phase}
 use Rattle.control.specs.declared.phase.Phase.the-variants.{Standby, Busy, AwaitsAddress, AwaitsChoice, AwaitsWord, TakesData, SendsByte}
 use Rattle.control.specs.declared.phase.Data.{Data}
-use Rattle.control.specs.Exchange.{standbyNow}
-use Rattle.cycle.specs.Stop.{stopData, stopIn}
+use Rattle.control.specs.Exchange.{standbyNow, busyNow}
+use Rattle.cycle.specs.Stop.{writesArray, writesSecurity, stopArray, stopSecurity, stopData, stopIn}
 
 module _ (c : Control) (load : Load) (array security : List ℕ) (P : Control × List ℕ × List ℕ → Type 0) where
   pub stop-either : (phase : Phase) → (phase ≡ Busy → P (c, array, security)) → P (standbyNow c, array, security)
@@ -21,3 +29,23 @@ module _ (c : Control) (load : Load) (array security : List ℕ) (P : Control ×
   stop-either (AwaitsWord word) busy over ends = over
   stop-either (TakesData kind) busy over ends = ends kind refl
   stop-either (SendsByte source) busy over ends = over
+
+module _ (c : Control) (load : Load) where
+  abbrev g : Geometry
+  g = geometryOf (c .part)
+
+  pub stop-lays-array : (array : List ℕ) → stopArray c load array .1 ≡ cond (writesArray c load) (laid g (pageOf g (c .arraycounter) * g .page) (choiceOf g load) array) array
+  stop-lays-array array = go (writesArray c load)
+    where
+      go : (writes : Bool) → cond {A = Control × List ℕ} writes (busyNow c, storePage g (c .arraycounter) load array) (standbyNow c, array) .1
+          ≡ cond writes (laid g (pageOf g (c .arraycounter) * g .page) (choiceOf g load) array) array
+      go true = stored-laid g (c .arraycounter) load array
+      go false = refl
+
+  pub stop-lays-security : (security : List ℕ) → stopSecurity c load security .1 ≡ cond (writesSecurity c load) (laid g (pageOf g (c .securitycounter) * g .page) (choiceOf g load) security) security
+  stop-lays-security security = go (writesSecurity c load)
+    where
+      go : (writes : Bool) → cond {A = Control × List ℕ} writes (busyNow c, storePage g (c .securitycounter) load security) (standbyNow c, security) .1
+          ≡ cond writes (laid g (pageOf g (c .securitycounter) * g .page) (choiceOf g load) security) security
+      go true = stored-laid g (c .securitycounter) load security
+      go false = refl

@@ -1,13 +1,14 @@
 -- Well formed (paper, "Well formed means"), of which `wellformed` has what concerns one chip, and two chips side by side. Clause by clause:
 --     set-up would pass 1 to 4                                 setUpPasses, here
 --     every counter is inside its region                       countersFit, and for the place in the ID placeFits: wellformed Wellformed
---     every load position is inside its region                 loadFits: wellformed Wellformed
+--     every load position is inside its region                 insidePage, in spanFits: wellformed Wellformed
 --     at most one chip in all is sending, chosen or taking
 --     word-address or data bytes                               notBothActive: wellformed Beside
 --     while another chip awaits a byte, that one is only
 --     chosen and awaits an address byte too                    waitsToo: wellformed Beside
 --     a busy chip is none of these and takes nothing           busyNotChosen: wellformed Wellformed; a busy phase neither sends nor takes
---     only a chip taking data bytes holds a load               loadMost, in loadFits: wellformed Wellformed
+--     only a chip taking data bytes holds a load               onlyDataLoads, in spanFits: wellformed Wellformed
+--     loaded bytes run on from the first (request E10)         nextRunsOn, in spanFits: wellformed Wellformed
 --     every register's unused bits and ECS are 0               unusedBitsClear: wellformed Wellformed
 --     awaiting an address byte, or the byte after F8h,
 --     counts as taking                                         isTaking: control Phase
@@ -31,8 +32,8 @@ use Rattle.lineup.specs.Chips.{chipAt, controlAt, placesOf}
 abbrev pub setUpPasses : ℕ → List Chip → Bool
 setUpPasses count chips = isPassed (boardVerdict count (placesOf chips))
 
--- every counter and load position is inside its region, a busy chip is not chosen, only a chip taking data bytes holds a load, and
--- every register's unused bits and ECS are 0
+-- every counter and load position is inside its region, a busy chip is not chosen, only a chip taking data bytes holds a load, the next byte runs
+-- on, and every register's unused bits and ECS are 0
 abbrev pub chipsFit : ℕ → List Chip → Bool
 chipsFit count chips = allBelow (λ (i : ℕ). chip.wellFormed (chipAt chips i)) (placed count)
 

@@ -1,124 +1,108 @@
--- Where the marks of a load lie: nowhere once it is emptied, and a byte put below a place leaves no mark past it. And what storing a
--- page leaves at each address: every place of it is stored to once, and to no other address.
-use Prim.Native.Nat.{ℕ, zero, suc, _+_, _*_, _<_, _≤_}
-use native.Mathlib.Decide.{ℕ-discrete}
-use native.Mathlib.Nat.{div-add-mod'}
+-- What a load means: an empty one nothing, a byte that runs on is overlaid, and what a page store leaves is the choice laid on the page.
+use Prim.Native.Nat.{ℕ, _+_, _*_, _<_, _≤_}
+use native.Mathlib.Decide.{decLt, ℕ-discrete}
 use native.Mathlib.Omega.{arith}
-use mathlib.Core.Bool.{Bool, true, false, cond, not, _&&_, _||_}
+use mathlib.Core.Bool.{Bool, true, false, cond, _&&_, _||_, or-false}
 use mathlib.Core.List.{List}
-use mathlib.Core.Path.{_≡_, _∙_, refl, sym, ap, subst}
+use mathlib.Core.Option.{none, some}
+use mathlib.Core.Path.{_≡_, _∙_, refl, ap}
 use lib.Dec.{eqb, ltb}
-use lib.ListN.{length, getD, getD-replicate, length-set}
+use lib.ListN.{length, getD, set}
 use lib.Seq.{getD-set-same, getD-set-other}
-use borrow.Author.Tests.{lt-ltb, ltb-true, eqb-true, eqb-false}
-use Rattle.base.specs.Fold.{upTo}
-use Rattle.base.proofs.logic.Laws.{or-right, either}
-use Rattle.base.proofs.Fold.{up-keeps, up-keeps-below, all-each, all-at}
+use borrow.Author.Tests.{lt-ltb, le-ltb, eq-eqb, ne-eqb}
+use Rattle.base.proofs.logic.Laws.{or-right}
+use Rattle.base.proofs.Fold.{up-same}
 use Rattle.parts.specs.declared.part.Geometry.{Geometry}
 use Rattle.parts.specs.Part.{Sound}
-use Rattle.regions.specs.Page.{pageOf, placeOf}
-use Rattle.regions.proofs.page.Laws.{place-below, page-of-place}
+use Rattle.regions.specs.Page.{pageOf, placeOf, nextInPage}
+use Rattle.regions.proofs.page.Laws.{place-below, next-place}
 use Rattle.load.specs.declared.Load.{Load}
-use Rattle.load.specs.Load.{emptied, put, isMarked, fitsAt, within, storeByte, storePlace, storePage}
+use Rattle.load.specs.declared.Span.{Span}
+use Rattle.load.specs.Span.{dropped, grown, covers, insidePage, runsOn}
+use Rattle.load.specs.Load.{emptied, put, isLoaded, storeByte, storePage}
+use Rattle.load.specs.Choice.{Choice, nothing, one, over, overlay, spanned, choiceOf, byteOr, layByte, laid}
+use Rattle.load.proofs.Spanning.{dropped-inside, covers-none, grown-inside, covers-grown, grown-runs-on}
+use Rattle.load.proofs.Laying.{laid-length, laid-elsewhere, laid-at}
 
-pub within-emptied : (most : ℕ) (load : Load) → within most (emptied load) ≡ true
-unfolding within
-within-emptied most load =
-    all-each (fitsAt most (emptied load)) 256 (λ place below. rw (getD-replicate 256 place false false below))
-
-further : (marked : Bool) (place few most : ℕ) → few ≤ most → (not marked || ltb place few) ≡ true → (not marked || ltb place most) ≡ true
-further true place few most more fits = let below : place < few = ltb-true _ _ fits in lt-ltb place most (omega arith)
-further false place few most more fits = refl
-
-pub within-more : (few most : ℕ) (load : Load) → few ≤ most → within few load ≡ true → within most load ≡ true
-unfolding within
-within-more few most load more fits =
-    all-each (fitsAt most load) 256 (λ place below. further (isMarked load place) place few most more (all-at (fitsAt few load) 256 place fits below))
-
-module _ (g : Geometry) (at value most : ℕ) (load : Load) (inside : placeOf g at < most) (fits : within most load ≡ true) where
-  beside : (place : ℕ) → place < 256 → fitsAt most (put g at value load) place ≡ true
-  unfolding within
-  beside place below = go (ℕ-discrete place (placeOf g at))
+-- a span inside its page, and values
+module _ (g : Geometry) (span : Span) (values : List ℕ) (inside : insidePage (g .page) span ≡ true) where
+  -- dropped, the choice is nothing
+  pub dropped-nothing : spanned g (dropped span) values ≡ nothing
+  dropped-nothing = λ j place. none-at place (ltb place (g .page)) j
     where
-      go : Dec (place ≡ placeOf g at) → fitsAt most (put g at value load) place ≡ true
-      go (yes here) = or-right (not (isMarked (put g at value load) place)) _ (rw here (lt-ltb _ _ inside))
-      go (no other) = rw (getD-set-other (load .marks) (placeOf g at) place true false other) (all-at (fitsAt most load) 256 place fits below)
+      none-at : (place : ℕ) (on-page : Bool) → cond (on-page && covers (g .page) (dropped span) place) (some (getD values place 0)) none ≡ none
+      none-at place true = rw (covers-none (g .page) (dropped span) (dropped-inside (g .page) span inside) refl place)
+      none-at place false = refl
 
-  pub within-put : within most (put g at value load) ≡ true
-  unfolding within
-  within-put = all-each (fitsAt most (put g at value load)) 256 beside
+  -- a byte that runs on is overlaid, whatever is loaded at its place
+  module _ (sound : Sound g) (long : g .page ≤ length values) (at value : ℕ) (runs : runsOn (g .page) span (placeOf g at) ≡ true) where
+    abbrev after : Choice
+    after = spanned g (grown (g .page) (placeOf g at) span) (set values (placeOf g at) value)
 
--- the bytes of the first n places stored, in the page that starts at `first`
-module _ (load : Load) (first : ℕ) (store : List ℕ) where
-  abbrev stored : ℕ → List ℕ
-  stored n = upTo (storePlace load first) n store
+    below : placeOf g at < g .page
+    below = place-below g sound at
 
-  stored-length : (n : ℕ) → length (stored n) ≡ length store
-  stored-length n =
-      up-keeps (storePlace load first) (λ (now : List ℕ). length now ≡ length store)
-      (λ place now so-far. either (λ (next : List ℕ). length next ≡ length store) (isMarked load place) _ now (length-set now (first + place) _ ∙ so-far) so-far)
-      n
-      store
-      refl
+    covered : (place : ℕ) → place < g .page → covers (g .page) (grown (g .page) (placeOf g at) span) place ≡ (covers (g .page) span place || eqb place (placeOf g at))
+    covered = covers-grown (g .page) span (placeOf g at) below inside runs
 
-  -- an address that is none of those places
-  stored-elsewhere : (n i d : ℕ) → ((place : ℕ) → place < n → i ≡ first + place → ⊥) → getD (stored n) i d ≡ getD store i d
-  stored-elsewhere n i d elsewhere =
-      up-keeps-below (storePlace load first) (λ (now : List ℕ). getD now i d ≡ getD store i d) n
-      (λ place now below so-far.
-      either (λ (next : List ℕ). getD next i d ≡ getD store i d) (isMarked load place) _ now
-      (getD-set-other now (first + place) i _ d (elsewhere place below) ∙ so-far)
-      so-far)
-      store
-      refl
+    here : after (placeOf g at) ≡ some value
+    here =
+        rw (lt-ltb _ _ below, covered (placeOf g at) below, eq-eqb (placeOf g at) (placeOf g at) refl, or-right (covers (g .page) span (placeOf g at)) true refl)
+        (ap some (getD-set-same values (placeOf g at) value 0 (omega (arith, below))))
 
-  -- the address of one of them
-  stored-there : (n place d : ℕ) → place < n → first + place < length store
-      → getD (stored n) (first + place) d ≡ cond (isMarked load place) (getD (load .values) place 0) (getD store (first + place) d)
-  unfolding upTo
-  stored-there zero place d below inside = absurd (omega arith)
-  stored-there (suc n) place d below inside = go (ℕ-discrete place n) (λ before. stored-there n place d before inside)
-    where
-      last : (marked : Bool) → getD (storeByte marked (first + place) (getD (load .values) place 0) (stored place)) (first + place) d
-          ≡ cond marked (getD (load .values) place 0) (getD store (first + place) d)
-      last true = getD-set-same (stored place) (first + place) _ d (omega (arith, stored-length place))
-      last false = stored-elsewhere place (first + place) d (λ other before same. absurd (omega arith))
+    beside : (place : ℕ) → (place ≡ placeOf g at → ⊥) → after place ≡ spanned g span values place
+    beside place other = go (decLt place (g .page))
+      where
+        go : Dec (place < g .page) → after place ≡ spanned g span values place
+        go (yes p) =
+            rw (lt-ltb _ _ p, covered place p, ne-eqb place (placeOf g at) other, or-false (covers (g .page) span place), getD-set-other values (placeOf g at) place value 0 other)
+        go (no p) = rw (le-ltb place (g .page) (omega arith))
 
-      Holds : ℕ → Type 0
-      Holds m = getD (stored m) (first + place) d ≡ cond (isMarked load place) (getD (load .values) place 0) (getD store (first + place) d)
+    pub grown-overlays : after ≡ overlay (spanned g span values) (one (placeOf g at) value)
+    grown-overlays = λ j place. overlaid place (ℕ-discrete place (placeOf g at)) j
+      where
+        overlaid : (place : ℕ) → Dec (place ≡ placeOf g at) → after place ≡ over (spanned g span values place) (one (placeOf g at) value place)
+        overlaid place (yes p) = rw (p, eq-eqb (placeOf g at) (placeOf g at) refl) here
+        overlaid place (no p) = rw (ne-eqb place (placeOf g at) p) (beside place p)
 
-      go : Dec (place ≡ n) → (place < n → Holds n) → Holds (suc n)
-      go (yes here) earlier = rw (sym here) (last (isMarked load place))
-      go (no other) earlier =
-          either (λ (next : List ℕ). getD next (first + place) d ≡ getD (stored n) (first + place) d) (isMarked load n) _ (stored n)
-          (getD-set-other (stored n) (first + n) (first + place) _ d (λ same. absurd (omega (arith, same))))
-          refl
-          ∙ earlier (omega arith)
+module _ (g : Geometry) (load : Load) (inside : insidePage (g .page) (load .span) ≡ true) where
+  pub emptied-nothing : choiceOf g (emptied load) ≡ nothing
+  emptied-nothing = dropped-nothing g (load .span) (load .values) inside
 
--- storing a page keeps the store's length, and every byte before the page
-pub store-page-length : (g : Geometry) (at : ℕ) (load : Load) (store : List ℕ) → length (storePage g at load store) ≡ length store
-unfolding storePage
-store-page-length g at load store = stored-length load (pageOf g at * g .page) store (g .page)
+  pub put-overlays : Sound g → g .page ≤ length (load .values) → (at value : ℕ) → runsOn (g .page) (load .span) (placeOf g at) ≡ true
+      → choiceOf g (put g at value load) ≡ overlay (choiceOf g load) (one (placeOf g at) value)
+  put-overlays = grown-overlays g (load .span) (load .values) inside
 
-pub store-page-before : (g : Geometry) (at : ℕ) (load : Load) (store : List ℕ) (i d : ℕ) → i < pageOf g at * g .page → getD (storePage g at load store) i d ≡ getD store i d
-unfolding storePage
-store-page-before g at load store i d before =
-    stored-elsewhere load (pageOf g at * g .page) store (g .page) i d (λ place below same. absurd (omega arith))
+  -- and wherever a byte ran on, the byte for the next address of its page does again
+  module _ (sound : Sound g) (at value : ℕ) where
+    pub put-inside : insidePage (g .page) (put g at value load .span) ≡ true
+    put-inside = grown-inside (g .page) (load .span) (placeOf g at) (place-below g sound at) inside
 
--- place by place, over any sound figures: at each address of the store there is the loaded value where it lies in the page and its place is
--- marked, and else what was there
-pub store-page-at : (g : Geometry) → Sound g → (at : ℕ) (load : Load) (store : List ℕ) (i d : ℕ) → i < length store
-    → getD (storePage g at load store) i d
-    ≡ cond (eqb (pageOf g i) (pageOf g at) && isMarked load (placeOf g i)) (getD (load .values) (placeOf g i) 0) (getD store i d)
-unfolding storePage
-store-page-at g sound at load store i d inside = go (eqb (pageOf g i) (pageOf g at)) refl
+    pub put-runs-on : runsOn (g .page) (load .span) (placeOf g at) ≡ true → runsOn (g .page) (put g at value load .span) (placeOf g (nextInPage g at)) ≡ true
+    put-runs-on runs = rw (next-place g sound at) (grown-runs-on (g .page) (load .span) (placeOf g at) (place-below g sound at) inside runs)
+
+-- what a page store leaves is what was loaded, laid on the page of the address
+pub stored-laid : (g : Geometry) (at : ℕ) (load : Load) (store : List ℕ) → storePage g at load store ≡ laid g (pageOf g at * g .page) (choiceOf g load) store
+unfolding storePage laid
+stored-laid g at load store = up-same _ _ (g .page) (λ place now below. rw (lt-ltb _ _ below) (stores (isLoaded g load place) place now)) store
   where
-    go : (same : Bool) → eqb (pageOf g i) (pageOf g at) ≡ same
-        → getD (stored load (pageOf g at * g .page) store (g .page)) i d ≡ cond (same && isMarked load (placeOf g i)) (getD (load .values) (placeOf g i) 0) (getD store i d)
-    go true is =
-        let split : pageOf g at * g .page + placeOf g i ≡ i = ap (λ (page : ℕ). page * g .page + placeOf g i) (sym (eqb-true _ _ is)) ∙ div-add-mod' i (g .page) in
-        subst (λ (k : ℕ). getD (stored load (pageOf g at * g .page) store (g .page)) k d ≡ cond (isMarked load (placeOf g i)) (getD (load .values) (placeOf g i) 0) (getD store k d)) split
-        (stored-there load (pageOf g at * g .page) store (g .page) (placeOf g i) d (place-below g sound i) (omega (arith, split)))
-    go false is =
-        stored-elsewhere load (pageOf g at * g .page) store (g .page) i d
-        (λ place below there. eqb-false _ _ is (ap (pageOf g) there ∙ page-of-place g sound at place below))
+    stores : (loaded : Bool) (place : ℕ) (now : List ℕ)
+        → storeByte loaded (pageOf g at * g .page + place) (getD (load .values) place 0) now ≡ layByte (cond loaded (some (getD (load .values) place 0)) none) (pageOf g at * g .page + place) now
+    stores true place now = refl
+    stores false place now = refl
+
+module _ (g : Geometry) (at : ℕ) (load : Load) (store : List ℕ) where
+  -- so the store keeps its length, and every byte before the page
+  pub store-page-length : length (storePage g at load store) ≡ length store
+  store-page-length = ap length (stored-laid g at load store) ∙ laid-length g (pageOf g at * g .page) (choiceOf g load) store
+
+  pub store-page-before : (i d : ℕ) → i < pageOf g at * g .page → getD (storePage g at load store) i d ≡ getD store i d
+  store-page-before i d before =
+      ap (λ (now : List ℕ). getD now i d) (stored-laid g at load store)
+      ∙ laid-elsewhere g (pageOf g at * g .page) (choiceOf g load) store i d (λ place below same. absurd (omega arith))
+
+  -- and at each address there is the loaded byte where it lies in the page and its place has one, and else what was there
+  pub store-page-at : Sound g → (i d : ℕ) → i < length store
+      → getD (storePage g at load store) i d ≡ cond (eqb (pageOf g i) (pageOf g at)) (byteOr (choiceOf g load (placeOf g i)) (getD store i d)) (getD store i d)
+  store-page-at sound i d inside =
+      ap (λ (now : List ℕ). getD now i d) (stored-laid g at load store) ∙ laid-at g sound at (choiceOf g load) store i d inside

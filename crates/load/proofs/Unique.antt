@@ -4,6 +4,12 @@ use Prim.Native.Nat.{ℕ}
 use mathlib.Core.List.{List}
 use denote.Ref.{now}
 use Rattle.base.proofs.Unique.{Unique, UniqueOutcome, same}
+use Rattle.load.proofs.Span.is_empty.Kinds as is-empty-kinds
+use Rattle.load.proofs.Span.is_empty.Reads as is-empty-reads
+use Rattle.load.proofs.Span.inside_page.Kinds as inside-page-kinds
+use Rattle.load.proofs.Span.inside_page.Reads as inside-page-reads
+use Rattle.load.proofs.Span.runs_on.Kinds as runs-on-kinds
+use Rattle.load.proofs.Span.runs_on.Reads as runs-on-reads
 use Rattle.load.proofs.Load.empty.Kinds as empty-kinds
 use Rattle.load.proofs.Load.empty.Reads as empty-reads
 use Rattle.load.proofs.Load.emptied.Kinds as emptied-kinds
@@ -12,10 +18,17 @@ use Rattle.load.proofs.Load.put.Kinds as put-kinds
 use Rattle.load.proofs.Load.put.Reads as put-reads
 use Rattle.load.proofs.Load.holds.Kinds as holds-kinds
 use Rattle.load.proofs.Load.holds.Reads as holds-reads
-use Rattle.load.proofs.Load.within.Kinds as within-kinds
-use Rattle.load.proofs.Load.within.Reads as within-reads
 use Rattle.load.proofs.Load.store_page.Kinds as store-page-kinds
 use Rattle.load.proofs.Load.store_page.Reads as store-page-reads
+
+pub is-empty-unique : Unique is-empty-kinds.ps is-empty-kinds.r is-empty-reads.Post
+is-empty-unique κs args x y at-x at-y = same
+
+pub inside-page-unique : Unique inside-page-kinds.ps inside-page-kinds.r inside-page-reads.Post
+inside-page-unique κs args x y at-x at-y = same
+
+pub runs-on-unique : Unique runs-on-kinds.ps runs-on-kinds.r runs-on-reads.Post
+runs-on-unique κs args x y at-x at-y = same
 
 pub empty-unique : Unique empty-kinds.ps empty-kinds.r empty-reads.Post
 empty-unique κs args x y at-x at-y = same
@@ -28,9 +41,6 @@ put-unique κs args x y at-x at-y = same
 
 pub holds-unique : Unique holds-kinds.ps holds-kinds.r holds-reads.Post
 holds-unique κs args x y at-x at-y = same
-
-pub within-unique : Unique within-kinds.ps within-kinds.r within-reads.Post
-within-unique κs args x y at-x at-y = same
 
 pub store-page-unique : UniqueOutcome store-page-kinds.ps store-page-kinds.r (List ℕ) (λ κs result at. (now (at .1 .1 .1 .0))) store-page-reads.Post
 store-page-unique κs args x y at-x at-y = same

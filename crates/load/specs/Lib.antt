@@ -1,1 +1,3 @@
+pub mod Span
 pub mod Load
+pub mod Choice

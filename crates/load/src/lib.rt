@@ -1,17 +1,97 @@
-// A page load: a mark and a value for each byte of a page, and how a Stop stores the marked ones (paper, "Data" and "Stop").
+// A page load: which places of a page are loaded, a value for each byte of a page, and how a Stop stores the loaded ones (paper, "Data" and
+// "Stop"; request E10).
 use parts::part::geometry_of;
 use regions::page::page_of;
 use regions::page::place_of;
 ghost use mathlib.Core.Path.{_≡_};
+ghost use Prim.Native.Nat.{_≤_, _<_};
 ghost use Rattle.parts.specs.Part.{geometryOf};
-ghost use Rattle.load.specs.Load.{empty, emptied, put, holds, within, storeByte, storePage};
+ghost use Rattle.regions.specs.Page.{placeOf};
+ghost use Rattle.load.specs.Span.{isEmpty, grown, metAt, covers, insidePage, runsOn};
+ghost use Rattle.load.specs.Load.{empty, emptied, put, holds, storeByte, storePage};
 
 // The bytes of the largest page.
 pub const PAGE_MOST: usize = 256;
 
+// The first place that was loaded, and how many were: loaded bytes run on, going round the page. A whole page of 256 bytes does not fit a byte.
+pub struct Span {
+    pub first: u8,
+    pub count: u16,
+}
+
 pub struct Load {
-    pub marks: [bool; PAGE_MOST],
+    pub span: Span,
     pub values: [u8; PAGE_MOST],
+}
+
+impl Span {
+    pub fn is_empty(self) -> bool
+        ensures { λ r. ⌜ r ≡ isEmpty self ⌝ }
+    {
+        self.count == 0
+    }
+
+    // A byte more, at its place; a page is the most that is counted.
+    fn grown(self, page: u32, place: u32) -> Span
+        requires { ⌜ page ≤ 256 ⌝ }
+        requires { ⌜ place < 256 ⌝ }
+        ensures { λ r. ⌜ r ≡ grown page place self ⌝ }
+    {
+        let count = base::number::least(self.count as usize + 1, page as usize) as u16;
+        if self.is_empty() {
+            return Span {
+                first: place as u8,
+                count,
+            };
+        }
+        Span {
+            first: self.first,
+            count,
+        }
+    }
+
+    // Where a place is met going on from the first.
+    fn met_at(self, page: u32, place: u32) -> u32
+        requires { ⌜ page ≤ 256 ⌝ }
+        requires { ⌜ place < 256 ⌝ }
+        ensures { λ r. ⌜ r ≡ metAt page self place ⌝ }
+    {
+        if place < self.first as u32 {
+            place + page
+        } else {
+            place
+        }
+    }
+
+    // Whether a place is one of the loaded ones.
+    fn covers(self, page: u32, place: u32) -> bool
+        requires { ⌜ page ≤ 256 ⌝ }
+        requires { ⌜ place < 256 ⌝ }
+        ensures { λ r. ⌜ r ≡ covers page self place ⌝ }
+    {
+        self.met_at(page, place) < self.first as u32 + self.count as u32
+    }
+
+    // Whether the part's page has the first place, and as many as came.
+    pub fn inside_page(self, part: u8) -> bool
+        ensures { λ r. ⌜ r ≡ insidePage (geometryOf part .page) self ⌝ }
+    {
+        let page = geometry_of(part).page;
+        base::logic::and((self.first as u32) < page, self.count as u32 <= page)
+    }
+
+    // Whether a byte at an address runs on from those that came.
+    pub fn runs_on(self, part: u8, at: u32) -> bool
+        ensures { λ r. ⌜ r ≡ runsOn (geometryOf part .page) self (placeOf (geometryOf part) at) ⌝ }
+    {
+        let page = geometry_of(part).page;
+        let next = self.met_at(page, place_of(part, at));
+        let follows = next == self.first as u32 + self.count as u32;
+        base::logic::or(
+            self.is_empty(),
+            base::logic::or(page <= self.count as u32, follows),
+        )
+    }
 }
 
 impl Load {
@@ -19,83 +99,76 @@ impl Load {
         ensures { λ r. ⌜ r ≡ empty ⌝ }
     {
         Load {
-            marks: [false; PAGE_MOST],
+            span: Span { first: 0, count: 0 },
             values: [0; PAGE_MOST],
         }
     }
 
-    // No mark is left. Values without one are never read, and stay.
+    // Nothing is loaded any more. Values that are not loaded are never read, and stay; so does the first place, so that a chip at rest whose
+    // load is dropped is the same chip.
     pub fn emptied(self) -> Load
         ensures { λ r. ⌜ r ≡ emptied self ⌝ }
     {
+        let span = self.span;
         let values = self.values;
         Load {
-            marks: [false; PAGE_MOST],
+            span: Span {
+                first: span.first,
+                count: 0,
+            },
             values,
         }
     }
 
-    // A value, marked, at the place of an address in its page.
+    // A byte more, with its value at the place of an address in its page.
     pub fn put(self, part: u8, at: u32, value: u8) -> Load
         ensures { λ r. ⌜ r ≡ put (geometryOf part) at value self ⌝ }
     {
-        let place = place_of(part, at) as usize;
-        let mut load = self;
-        load.marks[place] = true;
-        load.values[place] = value;
-        load
+        let page = geometry_of(part).page;
+        let place = place_of(part, at);
+        let span = self.span;
+        let mut values = self.values;
+        values[place as usize] = value;
+        Load {
+            span: span.grown(page, place),
+            values,
+        }
     }
 
-    // Whether at least one byte of the part's page is marked.
+    // Whether at least one byte is loaded, whatever the part's page.
     pub fn holds(self, part: u8) -> bool
         ensures { λ r. ⌜ r ≡ holds (geometryOf part) self ⌝ }
     {
-        let size = geometry_of(part).page as usize;
-        let mut found = false;
-        let mut i: usize = 0;
-        while i < size {
-            found = base::logic::or(self.marks[i], found);
-            i += 1;
-        }
-        found
+        let span = self.span;
+        !span.is_empty()
     }
 
-    // Whether no byte is marked at some place or past it. The marks are copied alone and looked at with no other test: LLVM makes
-    // vectors of that.
-    pub fn within(self, most: u32) -> bool
-        ensures { λ r. ⌜ r ≡ within most self ⌝ }
-    {
-        let marks = self.marks;
-        let mut found = false;
-        let mut i = base::number::least(most as usize, PAGE_MOST);
-        while i < PAGE_MOST {
-            found = base::logic::or(marks[i], found);
-            i += 1;
-        }
-        !found
-    }
-
-    // The marked bytes go to their places in the page that an address lies in; the page's others stay.
+    // The loaded bytes go to their places in the page that an address lies in; the page's others stay.
     pub fn store_page(self, part: u8, at: u32, share: &mut [u8])
         ensures { λ _. ⌜ now (share .exit) ≡ storePage (geometryOf part) at self (now (share .entry)) ⌝ }
     {
         let size = geometry_of(part).page;
         let first = page_of(part, at) * size;
+        let span = self.span;
         let mut i: u32 = 0;
         while i < size {
-            let place = i as usize;
-            store_byte(self.marks[place], first + i, self.values[place], share);
+            store_byte(
+                span.covers(size, i),
+                first + i,
+                self.values[i as usize],
+                share,
+            );
             i += 1;
         }
     }
 }
 
-// A byte that is marked goes to its address; past the share there is nothing to store to.
-fn store_byte(marked: bool, at: u32, value: u8, share: &mut [u8])
-    ensures { λ _. ⌜ now (share .exit) ≡ storeByte marked at value (now (share .entry)) ⌝ }
+// A byte that is loaded goes to its address; past the share there is nothing to store to.
+fn store_byte(loaded: bool, at: u32, value: u8, share: &mut [u8])
+    ensures { λ _. ⌜ now (share .exit) ≡ storeByte loaded at value (now (share .entry)) ⌝ }
 {
     let to = at as usize;
-    if marked {
+    if loaded {
         if to < share.len() {
             share[to] = value;
         }

@@ -9,7 +9,7 @@ use Rattle.base.specs.Word.{wordOf}
 use Rattle.parts.specs.Part.{geometry24CSM01, geometry24CS32, geometryOf}
 use Rattle.regions.specs.Zone.{zoneOf}
 use Rattle.regions.specs.Counter.{counterIn}
-use Rattle.load.specs.Load.{holds, storePage}
+use Rattle.load.specs.Load.{storePage}
 use Rattle.control.specs.Phase.{isBusy}
 use Rattle.control.specs.Said.{replyOf}
 use Rattle.addressing.specs.Address.{callOf, takeAddress, takeChoice}
@@ -130,5 +130,5 @@ edges =
     ∷ []
 
 pub edges-hold : map (λ (edge : ℕ × ℕ). edge .0) edges ≡ map (λ (edge : ℕ × ℕ). edge .1) edges
-unfolding edges step take loaded takeAddress takeChoice callOf geometryOf read stop holds storePage upTo setUp
+unfolding edges step take loaded takeAddress takeChoice callOf geometryOf read stop storePage upTo setUp
 edges-hold = refl

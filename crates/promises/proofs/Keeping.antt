@@ -1,6 +1,6 @@
 -- What every event keeps of one chip, and of two chips side by side.
 mod Fits
-mod Good
+pub mod Good
 mod Taking
 mod Sending
 mod Stopping

@@ -53,7 +53,7 @@ odd =
     ∷ []
 
 pub odd-ones-are-well-formed : map (wellFormed 2) odd ≡ true ∷ true ∷ true ∷ true ∷ []
-unfolding odd wellFormed boardVerdict placesOf upTo alone.wellFormed load.within geometryOf
+unfolding odd wellFormed boardVerdict placesOf upTo alone.wellFormed geometryOf
 odd-ones-are-well-formed = refl
 
 -- one sends its ID from a place on, and the host reads: from the last place that is its third byte, from the place past it 10 (request E5)
@@ -62,7 +62,7 @@ readAt place =
     answerTo step (record { count = 2; chips = line (inPhase (SendsByte (FromId place))) same }, replicate 8192 0xFF, replicate 128 0xFF) 0x0400
 
 pub past-the-id-is-refused : map readAt (2 ∷ 3 ∷ []) ≡ 0x00A8 ∷ 0x0A00 ∷ []
-unfolding step played play addressedOf wellFormed boardVerdict placesOf upTo alone.wellFormed load.within geometryOf chip.step read
+unfolding step played play addressedOf wellFormed boardVerdict placesOf upTo alone.wellFormed geometryOf chip.step read
 past-the-id-is-refused = refl
 
 -- the third: the byte after F8h is no address byte, so a choice outlives it, whatever byte it is

@@ -5,12 +5,9 @@ use native.Mathlib.Omega.{arith}
 use mathlib.Core.Bool.{Bool, true, false, cond, not, _&&_, _||_, false≢true}
 use mathlib.Core.List.{List}
 use mathlib.Core.Path.{_≡_, _∙_, refl, sym, ap}
-use lib.Dec.{eqb, ltb, leb}
-use lib.ListN.{length, getD, replicate, getD-replicate, length-replicate}
-use lib.Seq.{ext-getD}
-use borrow.Author.Tests.{ltb-true, leb-true, eqb-true, ne-eqb, not-true, not-false}
+use lib.Dec.{eqb, leb}
+use borrow.Author.Tests.{leb-true, eqb-true, ne-eqb, not-true, not-false}
 use Rattle.base.proofs.logic.Laws.{and-left, and-right, either}
-use Rattle.base.proofs.Fold.{all-at}
 use Rattle.parts.specs.Part.{geometryOf}
 use Rattle.parts.specs.Address.{answers, shareAddress}
 use Rattle.parts.proofs.part.Laws.{sound-of}
@@ -113,21 +110,7 @@ module _ (c : Chip) (place : Place)
       go false false true is other small some = rw (low-for-nobody byte (leb-true _ _ (and-right (leb 0x08 byte) _ small))) nobody
       go false false false is other small some = rw (eqb-true byte 0xF9 some) identity
 
--- marks none of which is set are those of an empty load
-no-marks : (n : ℕ) (marks : List Bool) → length marks ≡ n → ((i : ℕ) → i < n → getD marks i false ≡ false) → replicate n false ≡ marks
-no-marks n marks long none =
-    ext-getD false (replicate n false) marks (length-replicate n false ∙ sym long)
-    (λ i below. let inside : i < n = rw (length-replicate n false) at below in getD-replicate n i false false inside ∙ sym (none i inside))
-
-none-marked : (held : Load) → load.within 0 held ≡ true → (i : ℕ) → i < 256 → load.isMarked held i ≡ false
-unfolding load.within
-none-marked held within i below = go (load.isMarked held i) (all-at (load.fitsAt 0 held) 256 i within below)
-  where
-    go : (marked : Bool) → (not marked || ltb i 0) ≡ true → marked ≡ false
-    go true fits = absurd (omega (arith, ltb-true i 0 fits))
-    go false fits = refl
-
-module _ (c : Chip) (rest : isAtRest c ≡ true) (marks : length (c .load .marks) ≡ 256) where
+module _ (c : Chip) (rest : isAtRest c ≡ true) where
   still : (not (isSending (c .control .phase)) && not (isTaking (c .control .phase))) ≡ true
   still = and-left _ _ rest
 
@@ -148,10 +131,12 @@ module _ (c : Chip) (rest : isAtRest c ≡ true) (marks : length (c .load .marks
   two-ways G standby busy =
       resting-is (c .control .phase) sends-nothing takes-nothing (λ (phase : Phase). c .control .phase ≡ phase → G) standby busy refl
 
+  -- no byte is loaded, so a load that is dropped is the same load
   pub rest-emptied : load.emptied (c .load) ≡ c .load
-  rest-emptied =
-      ap (λ (held : List Bool). record { marks = held; values = c .load .values })
-      (no-marks 256 (c .load .marks) marks (none-marked (c .load) (not-false _ (not-true _ (and-left _ _ empty-handed)))))
+  rest-emptied = ap (λ (count : ℕ). record { span = record { first = c .load .span .first; count = count }; values = c .load .values }) (sym none)
+    where
+      none : c .load .span .count ≡ 0
+      none = eqb-true _ _ (not-false _ (not-true _ (and-left _ _ empty-handed)))
 
   -- on standby, its load and its choice dropped, it is as it was
   asleep : c .control .phase ≡ Standby → woken Standby c ≡ c

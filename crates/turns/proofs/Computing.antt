@@ -5,7 +5,7 @@ use mathlib.Core.List.{List, [], _∷_}
 use mathlib.Core.Path.{_≡_, refl, ap, subst}
 use Rattle.base.specs.Fold.{upTo}
 use Rattle.parts.specs.Part.{geometryOf}
-use Rattle.load.specs.Load.{holds, storePage}
+use Rattle.load.specs.Load.{storePage}
 use Rattle.addressing.specs.Address.{callOf, takeAddress, takeChoice}
 use Rattle.taking.specs.Taking.{take, loaded}
 use Rattle.sending.specs.Sending.{read}
@@ -25,7 +25,7 @@ use Rattle.turns.proofs.Entering.{Entering, entering-kept}
 
 -- who unfolds it unfolds all that an event and a turn are made of
 unfoldable pub eventByEvent : Bench
-unfolding event played play chip.step take loaded takeAddress takeChoice callOf geometryOf read stop holds storePage upTo addressedOf placesOf areTurns isTurnAt isRestOfTurn eventsOf turnsOf beganAt answersOf after answersTo
+unfolding event played play chip.step take loaded takeAddress takeChoice callOf geometryOf read stop storePage upTo addressedOf placesOf areTurns isTurnAt isRestOfTurn eventsOf turnsOf beganAt answersOf after answersTo
 eventByEvent = event
 
 -- what entered still enters with it

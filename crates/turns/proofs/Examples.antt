@@ -48,10 +48,6 @@ abbrev line : ℕ → Control → Control → Control → Bus
 line count one two three =
     record { count = count; chips = withoutLoad one ∷ withoutLoad two ∷ withoutLoad three ∷ emptyChip ∷ [] }
 
-none-loaded : load.within 0 load.empty ≡ true
-unfolding load.within upTo
-none-loaded = refl
-
 abbrev pub busy : Control → Control
 busy c = inPhase Busy c
 
@@ -82,7 +78,7 @@ board = (mixed, replicate arrays 0xFF, replicate securities 0xFF)
 
 mixed-is-ready : (array security : List ℕ) → length array ≡ arrays → length security ≡ securities → Ready (mixed, array, security)
 unfolding wellFormed boardVerdict placesOf upTo one-chip.wellFormed geometryOf isIdle
-mixed-is-ready array security long short = record { enters = rw (long, short, none-loaded); idle = rw none-loaded }
+mixed-is-ready array security long short = record { enters = rw (long, short); idle = refl }
 
 pub board-is-ready : Ready board
 unfolding board
@@ -195,9 +191,9 @@ free c = c
 pub pairs-are-ready : Ready (pair free free) × Ready (pair busy free) × Ready (pair busy busy)
 unfolding wellFormed boardVerdict placesOf upTo one-chip.wellFormed geometryOf isIdle
 pairs-are-ready = (
-  record { enters = rw none-loaded; idle = rw none-loaded },
-  record { enters = rw none-loaded; idle = rw none-loaded },
-  record { enters = rw none-loaded; idle = rw none-loaded },
+  record { enters = refl; idle = refl },
+  record { enters = refl; idle = refl },
+  record { enters = refl; idle = refl },
 )
 
 pub pairs-are-typed : OfItsType (pair free free .0) × OfItsType (pair busy free .0) × OfItsType (pair busy busy .0)

@@ -8,16 +8,19 @@ use mathlib.Core.Path.{_≡_, _∙_, refl, sym, ap, subst}
 use lib.Dec.{ltb}
 use lib.ListN.{length, length-map, set, replicate}
 use borrow.Author.Tests.{lt-ltb}
-use Rattle.base.proofs.logic.Laws.{and-left, and-right, and-both}
+use Rattle.base.proofs.logic.Laws.{and-left, and-right, and-both, either-if}
 use Rattle.base.proofs.Fold.{up-same}
 use Rattle.base.proofs.Every.{every-of}
 use Rattle.parts.specs.Part.{geometryOf}
 use Rattle.parts.proofs.part.Laws.{sound-of}
+use Rattle.load.specs.Span.{isEmpty}
 use Rattle.control.specs.declared.Control.{Control}
+use Rattle.control.specs.Control.{arraycounterAt}
 use Rattle.chip.specs.declared.Chip.{Chip}
 use Rattle.chip.proofs.Typed.{ChipTyped}
 use Rattle.wellformed.specs.Wellformed.{isSetUp, countersFit, controlFits}
 use Rattle.wellformed.specs.Wellformed as one-chip
+use Rattle.wellformed.specs.Beside.{sideBySide}
 use Rattle.refusal.specs.declared.Verdict.the-variants.{Passed}
 use Rattle.refusal.specs.Checks.{firstOf}
 use Rattle.board.specs.Place.{nowhere}
@@ -26,6 +29,7 @@ use Rattle.lineup.specs.Chips.{noChip, chipAt, controlAt, placeOf, placesOf}
 use Rattle.bus.specs.declared.Bus.{Bus}
 use Rattle.bus.specs.Step.{entryChecks}
 use Rattle.bus.proofs.Typed.{OfItsType, count-fits, has-four, bus-typed, chip-typed}
+use Rattle.promises.proofs.Keeping.Good.{inside-of, unloaded-fits}
 use Rattle.promises.proofs.Formed.{formed-of, of-formed, entry-of, of-entry}
 use Rattle.turns.specs.Benches.{movedTo, shared}
 use Rattle.turns.proofs.Entering.{Entering}
@@ -45,20 +49,41 @@ module _ (at : ℕ) where
   counter-small : (part : ℕ) → at % geometryOf part .array < 2 ^ 32
   counter-small part = omega (arith, counter-inside part, sound-of part .array-most)
 
+  abbrev elsewhere : Chip → Chip
+  elsewhere c = record { control = arraycounterAt (at % geometryOf (c .control .part) .array) (c .control); load = c .load }
+
+  -- what holds of a chip, and of it with its counter moved, holds of it after the fault
+  moves-or-stays : (P : Chip → Type 0) (c : Chip) → (isEmpty (c .load .span) ≡ true → P (elsewhere c)) → P c → P (movedTo at c)
+  moves-or-stays P c = either-if P (isEmpty (c .load .span)) (elsewhere c) c
+
+  -- a chip with no load may have its counter anywhere in its array
   still-formed : (c : Chip) → one-chip.wellFormed c ≡ true → one-chip.wellFormed (movedTo at c) ≡ true
   unfolding one-chip.wellFormed
-  still-formed c formed =
-      let held : Control = c .control in
-      let size : ℕ = geometryOf (held .part) .array in
-      let fits : controlFits held ≡ true = and-left _ _ formed in
-      let front : (isSetUp held && countersFit held) ≡ true = and-left _ _ fits in
-      let counters : countersFit held ≡ true = and-right (isSetUp held) _ front in
-      let inside : ltb (at % size) size ≡ true = lt-ltb _ _ (counter-inside (held .part)) in
-      and-both _ _
-      (and-both _ _
-      (and-both _ _ (and-left (isSetUp held) _ front) (and-both _ _ inside (and-right (ltb (held .arraycounter) size) _ counters)))
-      (and-right (isSetUp held && countersFit held) _ fits))
-      (and-right (controlFits held) _ formed)
+  still-formed c formed = moves-or-stays (λ (d : Chip). one-chip.wellFormed d ≡ true) c moved formed
+    where
+      moved : isEmpty (c .load .span) ≡ true → one-chip.wellFormed (elsewhere c) ≡ true
+      moved empty =
+          let held : Control = c .control in
+          let size : ℕ = geometryOf (held .part) .array in
+          let fits : controlFits held ≡ true = and-left _ _ formed in
+          let front : (isSetUp held && countersFit held) ≡ true = and-left _ _ fits in
+          let counters : countersFit held ≡ true = and-right (isSetUp held) _ front in
+          let inside : ltb (at % size) size ≡ true = lt-ltb _ _ (counter-inside (held .part)) in
+          and-both _ _
+          (and-both _ _
+          (and-both _ _ (and-left (isSetUp held) _ front) (and-both _ _ inside (and-right (ltb (held .arraycounter) size) _ counters)))
+          (and-right (isSetUp held && countersFit held) _ fits))
+          (unloaded-fits (elsewhere c .control) (c .load) (inside-of held (c .load) (and-right (controlFits held) _ formed), empty))
+
+  same-beside : (c d : Chip) → sideBySide (movedTo at c .control) (movedTo at d .control) ≡ sideBySide (c .control) (d .control)
+  same-beside c d =
+      moves-or-stays (λ (x : Chip). sideBySide (x .control) (movedTo at d .control) ≡ sideBySide (c .control) (d .control)) c (λ empty. second) second
+    where
+      second : sideBySide (c .control) (movedTo at d .control) ≡ sideBySide (c .control) (d .control)
+      second = moves-or-stays (λ (y : Chip). sideBySide (c .control) (y .control) ≡ sideBySide (c .control) (d .control)) d (λ empty. refl) refl
+
+  same-place : (c : Chip) → placeOf (movedTo at c .control) ≡ placeOf (c .control)
+  same-place c = moves-or-stays (λ (x : Chip). placeOf (x .control) ≡ placeOf (c .control)) c (λ empty. refl) refl
 
   module _ (bus : Bus) (array security : List ℕ) (typed : OfItsType bus) where
     abbrev moved : Bus
@@ -69,7 +94,10 @@ module _ (at : ℕ) where
 
     same-places : placesOf (moved .chips) ≡ placesOf (bus .chips)
     unfolding placesOf
-    same-places = up-same _ _ 4 (λ i places below. ap (λ (c : Chip). set places i (placeOf (c .control))) (here i below)) (replicate 4 nowhere)
+    same-places =
+        up-same _ _ 4
+        (λ i places below. ap (set places i) (ap (λ (c : Chip). placeOf (c .control)) (here i below) ∙ same-place (chipAt (bus .chips) i)))
+        (replicate 4 nowhere)
 
     moved-typed : OfItsType moved
     moved-typed =
@@ -77,7 +105,9 @@ module _ (at : ℕ) where
         bus-typed (bus .count) (moved .chips) (count-fits typed) four
         (every-of ChipTyped (moved .chips) noChip (λ i below.
         let inside : i < 4 = omega (arith, below, four) in
-        subst ChipTyped (sym (here i inside)) (counter-typed (chipAt (bus .chips) i) _ (counter-small (chipAt (bus .chips) i .control .part)) (chip-typed typed i inside))))
+        let own = chip-typed typed i inside in
+        subst ChipTyped (sym (here i inside))
+        (moves-or-stays ChipTyped (chipAt (bus .chips) i) (λ empty. counter-typed (chipAt (bus .chips) i) _ (counter-small (chipAt (bus .chips) i .control .part)) own) own)))
 
     still-enters : firstOf (entryChecks bus array security) ≡ Passed → Entering (moved, array, security)
     still-enters passed =
@@ -89,7 +119,8 @@ module _ (at : ℕ) where
         (record {
           set-up = rw same-places (was .set-up);
           fit = λ i below. rw (here i (omega (arith, most))) (still-formed (chipAt (bus .chips) i) (was .fit i below));
-          apart = λ i j below before. rw (controlAt, here i (omega (arith, most)), here j (omega (arith, most))) (was .apart i j below before);
+          apart = λ i j below before.
+              rw (controlAt, here i (omega (arith, most)), here j (omega (arith, most)), same-beside (chipAt (bus .chips) i) (chipAt (bus .chips) j)) (was .apart i j below before);
         }) in
         record { typed = moved-typed; enters = of-entry moved array security (now, rw same-places array-fits, rw same-places security-fits) }
 

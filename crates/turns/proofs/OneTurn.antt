@@ -23,7 +23,7 @@ use Rattle.lineup.specs.Chips.{chipAt, placesOf}
 use Rattle.lineup.proofs.Laws.{place-at}
 use Rattle.bus.specs.Step.{step}
 use Rattle.bus.proofs.Entry.{Entered, entered}
-use Rattle.bus.proofs.Typed.{OfItsType, has-marks}
+use Rattle.bus.proofs.Typed.{OfItsType}
 use Rattle.promises.specs.Playing.{World, after, answersTo}
 use Rattle.promises.proofs.Formed.{none-holds, formed-of}
 use Rattle.turns.specs.Idle.{isAtRest, isIdle}
@@ -77,7 +77,6 @@ module _ (began : World) (waits : Idling began) where
       record {
         below = below;
         at-rest = at-rest;
-        marked = λ j before. has-marks (waits .entering .typed) j (omega (arith, entry .chips-most));
         unshared = λ j before differ.
             subst (λ (p : Place). shareAddress (geometryOf (placeAt places k .part)) (placeAt places k .strap) (geometryOf (p .part)) (p .strap) ≡ false)
             (place-at chips j (omega (arith, entry .chips-most)))

@@ -3,7 +3,6 @@ use Prim.Native.Nat.{ℕ, _<_}
 use mathlib.Core.Bool.{Bool, true, false, cond}
 use mathlib.Core.List.{List}
 use mathlib.Core.Path.{_≡_, refl}
-use lib.ListN.{length}
 use borrow.Author.Tests.{ne-eqb}
 use Rattle.parts.specs.Part.{geometryOf}
 use Rattle.parts.specs.Address.{shareAddress}
@@ -30,11 +29,10 @@ silent c = Nothing
 abbrev pub toF8 : Chip → Said
 toF8 c = cond (isBusy (c .control .phase)) Nothing Ack
 
--- the chips beside k when its turn begins: at rest, with marks, and no address byte of k is theirs
+-- the chips beside k when its turn begins: at rest, and no address byte of k is theirs
 pub record Others (k : ℕ) (place : Place) (began : World) : Type 0 where
   pub below : k < began .0 .count
   pub at-rest : (j : ℕ) → j < began .0 .count → isAtRest (chipAt (began .0 .chips) j) ≡ true
-  pub marked : (j : ℕ) → j < began .0 .count → length (chipAt (began .0 .chips) j .load .marks) ≡ 256
   pub unshared : (j : ℕ) → j < began .0 .count → (j ≡ k → ⊥)
       → let c = controlAt (began .0 .chips) j in shareAddress (geometryOf (place .part)) (place .strap) (geometryOf (c .part)) (c .strap) ≡ false
 
@@ -52,31 +50,28 @@ module _ (k : ℕ) (place : Place) (began : World) (b : Others k place began) (j
   rest : isAtRest c ≡ true
   rest = b .at-rest j before
 
-  marks : length (c .load .marks) ≡ 256
-  marks = b .marked j before
-
   pub sits-start : SitsThrough (ToAll Start) Anything AddressByte silent j began
   sits-start = (refl, hears-start c a s)
 
   pub sits-stop : SitsThrough (ToAll Stop) Anything Anything silent j began
-  sits-stop = (refl, passes-stop c rest marks a s)
+  sits-stop = (refl, passes-stop c rest a s)
 
   pub sits-byte : (byte : ℕ) → SitsThrough (ToAll (Sent byte)) Anything Anything silent j began
-  sits-byte byte = (waiting-sends-nothing c rest marks Anything, passes-byte c rest marks a s byte)
+  sits-byte byte = (waiting-sends-nothing c rest Anything, passes-byte c rest a s byte)
 
   pub sits-read : (nack : Bool) → SitsThrough (ToAll (Read nack)) Anything Anything silent j began
-  sits-read nack = (rest-clashes c rest marks (Read nack), passes-read c rest marks a s nack)
+  sits-read nack = (rest-clashes c rest (Read nack), passes-read c rest a s nack)
 
   pub sits-named : (event : Event) → SitsThrough (ToOne k event) Anything Anything silent j began
-  sits-named event = (rest-clashes c rest marks event, rw (ne-eqb j k differ))
+  sits-named event = (rest-clashes c rest event, rw (ne-eqb j k differ))
 
   pub sits-first : (byte : ℕ) → isFirstByte place byte ≡ true → SitsThrough (ToAll (Sent byte)) AddressByte Anything silent j began
   sits-first byte is =
-      (waiting-sends-nothing c rest marks AddressByte, passes-first c rest marks a s place byte (b .unshared j before differ) is)
+      (waiting-sends-nothing c rest AddressByte, passes-first c rest a s place byte (b .unshared j before differ) is)
 
   pub sits-f8 : SitsThrough (ToAll (Sent 0xF8)) AddressByte ChoiceByte toF8 j began
-  sits-f8 = (waiting-sends-nothing c rest marks AddressByte, hears-f8 c rest marks a s)
+  sits-f8 = (waiting-sends-nothing c rest AddressByte, hears-f8 c rest a s)
 
   pub sits-choice : (byte : ℕ) → isAddressOf 0b1010 place byte ≡ true → SitsThrough (ToAll (Sent byte)) ChoiceByte Anything silent j began
   sits-choice byte is =
-      (waiting-sends-nothing c rest marks ChoiceByte, passes-choice c rest marks a s place byte (b .unshared j before differ) is)
+      (waiting-sends-nothing c rest ChoiceByte, passes-choice c rest a s place byte (b .unshared j before differ) is)

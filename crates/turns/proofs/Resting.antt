@@ -3,11 +3,11 @@
 use Prim.Native.Nat.{ℕ, _%_}
 use mathlib.Core.Bool.{Bool, true, false, cond, not, _&&_, _||_, false≢true}
 use mathlib.Core.List.{List}
-use mathlib.Core.Path.{_≡_, refl}
+use mathlib.Core.Path.{_≡_, refl, ap}
 use Rattle.base.proofs.logic.Laws.{and-left, and-right, or-right, or-either, either-if, either}
 use Rattle.load.specs.declared.Load.{Load}
+use Rattle.load.specs.Span.{isEmpty}
 use Rattle.load.specs.Load as load
-use Rattle.load.proofs.Laws.{within-emptied}
 use Rattle.control.specs.declared.Control.{Control}
 use Rattle.control.specs.declared.Said.the-variants.{Nothing, Ack}
 use Rattle.control.specs.declared.phase.Phase.{Phase}
@@ -16,7 +16,7 @@ use Rattle.control.specs.declared.phase.Data.{Data}
 use Rattle.control.specs.declared.phase.Data.the-variants.{ToArray, ToSecurity, ToConfiguration, ToLock, ToNowhere}
 use Rattle.control.specs.declared.phase.Came.{Came}
 use Rattle.control.specs.declared.phase.Came.the-variants.{Zero, One, Two, Three, More}
-use Rattle.control.specs.Phase.{isBusy, isSending, isTaking, awaitsAddress}
+use Rattle.control.specs.Phase.{isBusy, takesData, isSending, isTaking, awaitsAddress}
 use Rattle.control.specs.Control.{idlockedNow, configured}
 use Rattle.control.specs.Exchange.{standbyNow, busyNow}
 use Rattle.control.specs.Bits.{configlock}
@@ -30,7 +30,8 @@ use Rattle.chip.specs.declared.Chip.{Chip}
 use Rattle.chip.specs.declared.event.Event.{Event}
 use Rattle.chip.specs.declared.event.Event.the-variants.{Start, Stop, Sent, Read, Wp, CycleOver, PowerUp}
 use Rattle.chip.specs.Chip.{step}
-use Rattle.wellformed.specs.Wellformed.{isSetUp, countersFit, placeFits, unusedBitsClear, busyNotChosen, controlFits, loadMost, wellFormed}
+use Rattle.wellformed.specs.Wellformed.{isSetUp, countersFit, placeFits, unusedBitsClear, busyNotChosen, controlFits, wellFormed}
+use Rattle.promises.proofs.Keeping.Good.{unloaded-of}
 use Rattle.promises.proofs.Keeping.Beside.{isNamed}
 use Rattle.turns.specs.Idle.{isAtRest}
 use Rattle.turns.proofs.Bystander.{woken}
@@ -41,10 +42,10 @@ module _ (held : Load) where
   Rests c = isAtRest (record { control = c; load = load.emptied held }) ≡ true
 
   standby-now-rests : (c : Control) → Rests (standbyNow c)
-  standby-now-rests c = rw (within-emptied 0 held)
+  standby-now-rests c = refl
 
   busy-now-rests : (c : Control) → Rests (busyNow c)
-  busy-now-rests c = rw (within-emptied 0 held)
+  busy-now-rests c = refl
 
   came-rests : (came : Came) (c : Control) → Rests (stopConfiguration came c)
   came-rests Zero c = standby-now-rests c
@@ -66,14 +67,14 @@ pub stop-rests : (c : Chip) (a s : List ℕ) → wellFormed c ≡ true → isAtR
 unfolding step stop wellFormed
 stop-rests c a s formed =
     either-if (λ (x : Chip × List ℕ × List ℕ). isAtRest (x .0) ≡ true) (isBusy (c .control .phase)) (c, a, s) _
-    (λ busy. let is = busy-is (c .control .phase) busy in rw (is, rw is at empty, rw is at unchosen))
+    (λ busy. let is = busy-is (c .control .phase) busy in rw (is, empty is, rw is at unchosen))
     (stop-either (c .control) (c .load) a s (λ (x : Control × List ℕ × List ℕ). Rests (c .load) (x .0)) (c .control .phase)
-    (λ is. rw (is, rw is at unchosen, within-emptied 0 (c .load)))
+    (λ is. rw (is, rw is at unchosen))
     (standby-now-rests (c .load) (c .control))
     (λ kind takes. data-rests (c .load) kind (c .control) a s))
   where
-    empty : load.within (loadMost (c .control)) (c .load) ≡ true
-    empty = and-right (controlFits (c .control)) _ formed
+    empty : c .control .phase ≡ Busy → isEmpty (c .load .span) ≡ true
+    empty is = unloaded-of (c .control) (c .load) (ap takesData is) (and-right (controlFits (c .control)) _ formed) .1
 
     unchosen : busyNotChosen (c .control) ≡ true
     unchosen =

@@ -12,8 +12,6 @@ use Rattle.base.specs.Fold.{allBelow}
 use Rattle.base.specs.Every.{Every}
 use Rattle.base.proofs.Fold.{up-keeps, all-each}
 use Rattle.base.proofs.Every.{every-set}
-use Rattle.load.specs.Load.{empty}
-use Rattle.load.proofs.Laws.{within-emptied}
 use Rattle.control.specs.declared.phase.Phase.the-variants.{Standby}
 use Rattle.chip.specs.declared.Chip.{Chip}
 use Rattle.chip.specs.Chip.{fresh}
@@ -36,7 +34,7 @@ use Rattle.turns.specs.Undisturbed.{Ready}
 use Rattle.turns.proofs.Typed.{standby-typed, fresh-typed, unloaded-typed, empty-typed}
 
 fresh-rests : (part strap : ℕ) → isAtRest (fresh part strap) ≡ true
-fresh-rests part strap = rw (within-emptied 0 empty)
+fresh-rests part strap = refl
 
 pub set-up-is-ready : (count : ℕ) (places : List Place) (array security : List ℕ) → setUp count places array security .verdict ≡ Passed
     → Ready (setUp count places array security .bus, array, security)

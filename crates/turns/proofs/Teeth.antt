@@ -7,7 +7,6 @@ use mathlib.Core.List.{List, [], _∷_, map}
 use mathlib.Core.Path.{_≡_, _∙_, refl, sym, ap}
 use borrow.Author.Tests.{eqb-false, ne-eqb}
 use Rattle.base.proofs.logic.Laws.{either}
-use Rattle.load.specs.Load as load
 use Rattle.wellformed.specs.Wellformed as one-chip
 use Rattle.board.specs.Board.{boardVerdict}
 use Rattle.lineup.specs.Chips.{controlAt}
@@ -117,7 +116,7 @@ forFirst-keeps bench world word made e = either (λ (now : Made). Entering (ledT
 
 -- where it is busy and the other is not, F8h must be acknowledged
 pub own-f8-is-refused : Undisturbed (ownF8 step) → ⊥
-unfolding eventByEvent step wellFormed boardVerdict one-chip.wellFormed load.within
+unfolding eventByEvent step wellFormed boardVerdict one-chip.wellFormed
 own-f8-is-refused undisturbed =
     let typed = pairs-are-typed .1 in
     let ready = pairs-are-ready .1 in

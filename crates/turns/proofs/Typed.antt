@@ -5,7 +5,7 @@ use Prim.Native.Nat.{ℕ, zero, suc, _<_, _^_}
 use mathlib.Core.Bool.{Bool, false}
 use mathlib.Core.List.{[], _∷_}
 use mathlib.Core.Path.{refl}
-use lib.Dec.{lit<}
+use lib.Dec.{lit<, lit≤}
 use lib.ListN.{replicate, length-replicate}
 use mir.Val.{Val}
 use denote.Laws.{Is}
@@ -81,7 +81,7 @@ zeros (suc n) = (lit< tt, zeros n)
 -- without a load
 pub unloaded-typed : (c : Control) → ControlTyped c → ChipTyped (record { control = c; load = load.empty })
 unloaded-typed c typed =
-    let held = load-typed load.empty (record { marks = length-replicate 256 false; values = length-replicate {A = ℕ} 256 0 }) (zeros 256) in
+    let held = load-typed load.empty 256 (lit≤ tt) refl (length-replicate {A = ℕ} 256 0) (zeros 256) in
     record { value = _; is = ((_, (_, tt)), (refl, (typed .1, (held .1, tt)))) }
 
 pub empty-typed : ChipTyped emptyChip

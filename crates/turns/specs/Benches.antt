@@ -5,6 +5,7 @@ use mathlib.Core.List.{List, map}
 use lib.Dec.{eqb}
 use Rattle.base.specs.Fold.{upTo}
 use Rattle.parts.specs.Part.{geometryOf}
+use Rattle.load.specs.Span.{isEmpty}
 use Rattle.control.specs.Control.{arraycounterAt}
 use Rattle.chip.specs.declared.Chip.{Chip}
 use Rattle.lineup.specs.Chips.{controlAt}
@@ -26,9 +27,10 @@ abbrev pub lineCounter : List Chip → List Chip → ℕ
 lineCounter before now =
     upTo (λ (i at : ℕ). let mine = controlAt now i .arraycounter in cond (eqb (controlAt before i .arraycounter) mine) at mine) 4 (controlAt now 0 .arraycounter)
 
--- a chip with its array counter elsewhere, modulo its array
+-- a chip with its array counter elsewhere, modulo its array; one amid a load is the one that moved it, and has it already
 abbrev pub movedTo : ℕ → Chip → Chip
-movedTo at c = record { control = arraycounterAt (at % geometryOf (c .control .part) .array) (c .control); load = c .load }
+movedTo at c =
+    cond (isEmpty (c .load .span)) (record { control = arraycounterAt (at % geometryOf (c .control .part) .array) (c .control); load = c .load }) c
 
 -- one counter for the line: after every event all chips have it
 abbrev pub shared : Fault

@@ -2,7 +2,7 @@
 use Prim.Native.Nat.{ℕ}
 use mathlib.Core.Bool.{Bool, not, _&&_}
 use Rattle.base.specs.Fold.{allBelow}
-use Rattle.load.specs.Load.{within}
+use Rattle.load.specs.Span.{isEmpty}
 use Rattle.control.specs.Phase.{isSending, isTaking}
 use Rattle.chip.specs.declared.Chip.{Chip}
 use Rattle.board.specs.Place.{placed}
@@ -11,7 +11,7 @@ use Rattle.bus.specs.declared.Bus.{Bus}
 
 -- some byte of a page is loaded
 abbrev pub isLoading : Chip → Bool
-isLoading c = not (within 0 (c .load))
+isLoading c = not (isEmpty (c .load .span))
 
 abbrev pub isAtRest : Chip → Bool
 isAtRest c =

@@ -1,12 +1,15 @@
 -- A chip's own part of what makes a state well formed, clause by clause (paper, "Well formed means").
-use Prim.Native.Nat.{ℕ}
-use mathlib.Core.Bool.{Bool, true, cond, not, _&&_}
+use mathlib.Core.Bool.{Bool, true, not, _&&_, _||_}
 use lib.Dec.{ltb}
 use Rattle.parts.specs.Part.{isPart, geometryOf}
-use Rattle.load.specs.Load.{within}
+use Rattle.regions.specs.Page.{placeOf}
+use Rattle.load.specs.declared.Span.{Span}
+use Rattle.load.specs.Span.{isEmpty, insidePage, runsOn}
 use Rattle.control.specs.declared.Control.{Control}
 use Rattle.control.specs.declared.phase.Phase.{Phase}
 use Rattle.control.specs.declared.phase.Phase.the-variants.{Standby, Busy, AwaitsAddress, AwaitsChoice, AwaitsWord, TakesData, SendsByte}
+use Rattle.control.specs.declared.phase.Data.{Data}
+use Rattle.control.specs.declared.phase.Data.the-variants.{ToArray, ToSecurity, ToConfiguration, ToLock, ToNowhere}
 use Rattle.control.specs.declared.phase.Source.{Source}
 use Rattle.control.specs.declared.phase.Source.the-variants.{FromArray, FromSecurity, FromConfiguration, FromId, FromNothing}
 use Rattle.control.specs.Phase.{isBusy, takesData}
@@ -48,12 +51,30 @@ busyNotChosen c = not (isBusy (c .phase) && c .chosen)
 abbrev pub controlFits : Control → Bool
 controlFits c = (isSetUp c && countersFit c) && ((unusedBitsClear c && placeFits (c .phase)) && busyNotChosen c)
 
--- only a chip taking data bytes holds a load, and every load position is inside the page
-abbrev pub loadMost : Control → ℕ
-loadMost c = cond (takesData (c .phase)) (geometryOf (c .part) .page) 0
+-- only a chip taking data bytes holds a load
+abbrev pub onlyDataLoads : Control → Span → Bool
+onlyDataLoads c span = isEmpty span || takesData (c .phase)
 
-abbrev pub loadFits : Chip → Bool
-loadFits c = within (loadMost (c .control)) (c .load)
+-- and the byte that would come next for the array or the security register runs on from those that came (request E10); other data is not loaded
+abbrev pub nextDataRunsOn : Data → Control → Span → Bool
+nextDataRunsOn ToArray c span = runsOn (geometryOf (c .part) .page) span (placeOf (geometryOf (c .part)) (c .arraycounter))
+nextDataRunsOn ToSecurity c span = runsOn (geometryOf (c .part) .page) span (placeOf (geometryOf (c .part)) (c .securitycounter))
+nextDataRunsOn (ToConfiguration came) c span = true
+nextDataRunsOn (ToLock some) c span = true
+nextDataRunsOn ToNowhere c span = true
+
+abbrev pub nextRunsOn : Phase → Control → Span → Bool
+nextRunsOn Standby c span = true
+nextRunsOn Busy c span = true
+nextRunsOn AwaitsAddress c span = true
+nextRunsOn AwaitsChoice c span = true
+nextRunsOn (AwaitsWord word) c span = true
+nextRunsOn (TakesData kind) c span = nextDataRunsOn kind c span
+nextRunsOn (SendsByte source) c span = true
+
+-- and every load position is inside the page
+abbrev pub spanFits : Control → Span → Bool
+spanFits c span = insidePage (geometryOf (c .part) .page) span && (onlyDataLoads c span && nextRunsOn (c .phase) c span)
 
 unfoldable pub wellFormed : Chip → Bool
-wellFormed c = controlFits (c .control) && loadFits c
+wellFormed c = controlFits (c .control) && spanFits (c .control) (c .load .span)

@@ -2,16 +2,19 @@
 pub mod beside;
 
 use base::logic::and;
+use base::logic::or;
 use chip::Chip;
 use control::Control;
+use control::phase::Data;
 use control::phase::Phase;
 use control::phase::Source;
 use control::phase::is_busy;
 use control::phase::takes_data;
+use load::Span;
 use parts::part::geometry_of;
 use parts::part::is_part;
 ghost use mathlib.Core.Path.{_≡_};
-ghost use Rattle.wellformed.specs.Wellformed.{isSetUp, countersFit, idPlaceFits, placeFits, busyNotChosen, controlFits, loadMost, wellFormed};
+ghost use Rattle.wellformed.specs.Wellformed.{isSetUp, countersFit, idPlaceFits, placeFits, busyNotChosen, controlFits, nextDataRunsOn, nextRunsOn, spanFits, wellFormed};
 
 // Configuration byte 0 has no bit but 1 and 0.
 const CONFIG0_END: u8 = 4;
@@ -77,16 +80,43 @@ fn control_fits(c: Control) -> bool
     )
 }
 
-// How much of the load a chip may have marked: a page while it takes data, else nothing.
-fn load_most(c: Control) -> u32
-    ensures { λ r. ⌜ r ≡ loadMost c ⌝ }
+// Where the next byte of these data would be loaded, it runs on from those that came.
+fn next_data_runs_on(kind: Data, c: Control, span: Span) -> bool
+    ensures { λ r. ⌜ r ≡ nextDataRunsOn kind c span ⌝ }
+{
+    match kind {
+        Data::ToArray => span.runs_on(c.part, c.arraycounter),
+        Data::ToSecurity => span.runs_on(c.part, c.securitycounter),
+        Data::ToConfiguration(_) => true,
+        Data::ToLock(_) => true,
+        Data::ToNowhere => true,
+    }
+}
+
+fn next_runs_on(phase: Phase, c: Control, span: Span) -> bool
+    ensures { λ r. ⌜ r ≡ nextRunsOn phase c span ⌝ }
+{
+    match phase {
+        Phase::Standby => true,
+        Phase::Busy => true,
+        Phase::AwaitsAddress => true,
+        Phase::AwaitsChoice => true,
+        Phase::AwaitsWord(_) => true,
+        Phase::TakesData(kind) => next_data_runs_on(kind, c, span),
+        Phase::SendsByte(_) => true,
+    }
+}
+
+// Only a chip that takes data holds a load, inside its page, and the next byte runs on.
+fn span_fits(c: Control, span: Span) -> bool
+    ensures { λ r. ⌜ r ≡ spanFits c span ⌝ }
 {
     let phase = c.phase;
-    if takes_data(phase) {
-        geometry_of(c.part).page
-    } else {
-        0
-    }
+    let held = or(span.is_empty(), takes_data(phase));
+    and(
+        span.inside_page(c.part),
+        and(held, next_runs_on(phase, c, span)),
+    )
 }
 
 pub fn well_formed(chip: Chip) -> bool
@@ -94,5 +124,6 @@ pub fn well_formed(chip: Chip) -> bool
 {
     let control = chip.control;
     let load = chip.load;
-    and(control_fits(control), load.within(load_most(control)))
+    let span = load.span;
+    and(control_fits(control), span_fits(control, span))
 }

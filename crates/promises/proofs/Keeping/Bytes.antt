@@ -14,7 +14,7 @@ use Rattle.parts.specs.declared.part.Geometry.{Geometry}
 use Rattle.parts.specs.Part.{geometry24CSM01, geometry24CS32, geometryOf}
 use Rattle.regions.specs.Page.{pageOf}
 use Rattle.load.specs.declared.Load.{Load}
-use Rattle.load.specs.Load.{isMarked, storePlace, storePage}
+use Rattle.load.specs.Load.{isLoaded, storePlace, storePage}
 use Rattle.control.specs.declared.Control.{Control}
 use Rattle.control.specs.declared.Answered.{Answered}
 use Rattle.control.specs.declared.phase.Phase.{Phase}
@@ -148,9 +148,9 @@ module _ (c : Control) (array security : List ℕ) (now : ControlBytes c) where
 page-stored : (g : Geometry) (at : ℕ) (load : Load) (store : List ℕ) → AllBytes (load .values) → AllBytes store → AllBytes (storePage g at load store)
 unfolding storePage
 page-stored g at load store in-load in-store =
-    up-keeps (storePlace load (pageOf g at * g .page)) AllBytes
+    up-keeps (storePlace g load (pageOf g at * g .page)) AllBytes
     (λ place now so-far.
-    either AllBytes (isMarked load place) _ now (every-set FitsByte now _ _ so-far (every-at FitsByte (load .values) place 0 in-load (omega arith))) so-far)
+    either AllBytes (isLoaded g load place) _ now (every-set FitsByte now _ _ so-far (every-at FitsByte (load .values) place 0 in-load (omega arith))) so-far)
     (g .page)
     store
     in-store

@@ -134,7 +134,7 @@ module _ (P : Control → Type 0) (closed : Closed P) where
       (after c false Standby p)
   ends-keep ToNowhere c load array security p = after c false Standby p
 
-  stop-keeps : (phase : Phase) (c : Control) (load : Load) (array security : List ℕ) → P c → P (stopIn phase c load array security .0)
+  pub stop-keeps : (phase : Phase) (c : Control) (load : Load) (array security : List ℕ) → P c → P (stopIn phase c load array security .0)
   stop-keeps phase c load array security p =
       stop-either c load array security (λ (x : Control × List ℕ × List ℕ). P (x .0)) phase (λ busy. p) (after c false Standby p)
       (λ kind takes. ends-keep kind c load array security p)

@@ -1,29 +1,47 @@
 -- The clauses of a chip together with those of the load it holds, and the few moves by which they are kept.
 use Prim.Native.Nat.{ℕ}
-use native.Mathlib.Omega.{arith}
-use mathlib.Core.Bool.{Bool, true, false, not, _&&_}
-use mathlib.Core.Path.{_≡_, refl}
+use mathlib.Core.Bool.{Bool, true, false, not, _&&_, false≢true}
+use mathlib.Core.Path.{_≡_, _∙_, refl, sym}
+use Rattle.base.proofs.logic.Laws.{and-left, and-right, and-both, or-left, or-right, or-either}
 use Rattle.parts.specs.Part.{geometryOf}
 use Rattle.load.specs.declared.Load.{Load}
-use Rattle.load.specs.Load.{emptied, within}
-use Rattle.load.proofs.Laws.{within-emptied, within-more}
+use Rattle.load.specs.Span.{isEmpty, insidePage}
+use Rattle.load.specs.Load.{emptied}
+use Rattle.load.proofs.Spanning.{dropped-inside}
 use Rattle.control.specs.declared.Control.{Control}
-use Rattle.control.specs.declared.phase.Phase.the-variants.{Standby, Busy, TakesData}
+use Rattle.control.specs.declared.phase.Phase.{Phase}
+use Rattle.control.specs.declared.phase.Phase.the-variants.{Standby, Busy, AwaitsAddress, AwaitsChoice, AwaitsWord, TakesData, SendsByte}
 use Rattle.control.specs.declared.phase.Data.{Data}
-use Rattle.control.specs.Phase.{isBusy}
-use Rattle.control.specs.Control.{inPhase, choosing}
+use Rattle.control.specs.declared.phase.Data.the-variants.{ToArray, ToSecurity, ToConfiguration, ToLock, ToNowhere}
+use Rattle.control.specs.Phase.{isBusy, takesData}
+use Rattle.control.specs.Control.{inPhase, choosing, wpAt}
 use Rattle.control.specs.Exchange.{standbyNow, busyNow}
-use Rattle.wellformed.specs.Wellformed.{loadMost}
+use Rattle.wellformed.specs.Wellformed.{placeFits, onlyDataLoads, nextDataRunsOn, nextRunsOn, spanFits}
 use Rattle.promises.proofs.Keeping.Fits.{Fits, in-phase-fits, choosing-fits}
-use Rattle.load.specs.Load.{empty}
 
 -- the clauses of a chip and of the load it holds
 abbrev pub Good : Control → Load → Type 0
-Good c load = Fits c × (within (loadMost c) load ≡ true)
+Good c load = Fits c × (spanFits c (load .span) ≡ true)
 
 -- a page of the chip's part
 abbrev pub page : Control → ℕ
 page c = geometryOf (c .part) .page
+
+-- a load inside that page, and an empty one
+abbrev pub Inside : Control → Load → Type 0
+Inside c load = insidePage (page c) (load .span) ≡ true
+
+abbrev pub Unloaded : Control → Load → Type 0
+Unloaded c load = Inside c load × (isEmpty (load .span) ≡ true)
+
+pub inside-of : (c : Control) (load : Load) → spanFits c (load .span) ≡ true → Inside c load
+inside-of c load spans = and-left (insidePage (page c) (load .span)) _ spans
+
+-- a chip that takes no data has an empty load
+pub unloaded-of : (c : Control) (load : Load) → takesData (c .phase) ≡ false → spanFits c (load .span) ≡ true → Unloaded c load
+unloaded-of c load other spans =
+    let rest : (onlyDataLoads c (load .span) && nextRunsOn (c .phase) c (load .span)) ≡ true = and-right (insidePage (page c) (load .span)) _ spans in
+    (inside-of c load spans, or-either (isEmpty (load .span)) (takesData (c .phase)) (and-left _ _ rest) (λ empty. empty) (λ takes. absurd (false≢true (sym other ∙ takes))))
 
 unchosen : (b : Bool) → not (b && false) ≡ true
 unchosen true = refl
@@ -40,15 +58,65 @@ module _ (c : Control) (f : Fits c) where
   pub busy-now-fits : Fits (busyNow c)
   busy-now-fits = in-phase-fits _ dropped Busy refl refl
 
-module _ (c : Control) (load : Load) (f : Fits c) (empty : within 0 load ≡ true) where
-  -- a chip that takes no data keeps an empty load empty
-  pub standby : Good (inPhase Standby c) load
-  standby = (in-phase-fits c f Standby refl refl, empty)
+-- an empty load fits whatever the phase: a first byte always runs on
+pub unloaded-fits : (c : Control) (load : Load) → Unloaded c load → spanFits c (load .span) ≡ true
+unloaded-fits c load (inside, empty) =
+    and-both _ _ inside (and-both (onlyDataLoads c (load .span)) _ (or-left (isEmpty (load .span)) _ empty) (begins-anywhere (c .phase)))
+  where
+    begins-with : (kind : Data) → nextDataRunsOn kind c (load .span) ≡ true
+    begins-with ToArray = or-left (isEmpty (load .span)) _ empty
+    begins-with ToSecurity = or-left (isEmpty (load .span)) _ empty
+    begins-with (ToConfiguration came) = refl
+    begins-with (ToLock some) = refl
+    begins-with ToNowhere = refl
 
-  -- and one that begins to may fill a page
-  pub begins : (kind : Data) → Good (inPhase (TakesData kind) c) load
-  begins kind = (in-phase-fits c f (TakesData kind) refl refl, within-more 0 (page c) load (omega arith) empty)
+    begins-anywhere : (phase : Phase) → nextRunsOn phase c (load .span) ≡ true
+    begins-anywhere Standby = refl
+    begins-anywhere Busy = refl
+    begins-anywhere AwaitsAddress = refl
+    begins-anywhere AwaitsChoice = refl
+    begins-anywhere (AwaitsWord word) = refl
+    begins-anywhere (TakesData kind) = begins-with kind
+    begins-anywhere (SendsByte source) = refl
 
--- an emptied load is inside whatever a chip may mark
-pub emptied-good : (c : Control) (load : Load) → Fits c → Good c (emptied load)
-emptied-good c load f = (f, within-emptied (loadMost c) load)
+-- the WP level is no part of the clauses on a load
+pub wp-spans : (c : Control) (load : Load) (level : Bool) → spanFits c (load .span) ≡ true → spanFits (wpAt level c) (load .span) ≡ true
+wp-spans c load level spans =
+    let rest : (onlyDataLoads c (load .span) && nextRunsOn (c .phase) c (load .span)) ≡ true = and-right (insidePage (page c) (load .span)) _ spans in
+    and-both _ _ (inside-of c load spans) (and-both (onlyDataLoads c (load .span)) _ (and-left _ _ rest) (still (c .phase) (and-right (onlyDataLoads c (load .span)) _ rest)))
+  where
+    still-with : (kind : Data) → nextDataRunsOn kind c (load .span) ≡ true → nextDataRunsOn kind (wpAt level c) (load .span) ≡ true
+    still-with ToArray runs = runs
+    still-with ToSecurity runs = runs
+    still-with (ToConfiguration came) runs = runs
+    still-with (ToLock some) runs = runs
+    still-with ToNowhere runs = runs
+
+    still : (phase : Phase) → nextRunsOn phase c (load .span) ≡ true → nextRunsOn phase (wpAt level c) (load .span) ≡ true
+    still Standby runs = runs
+    still Busy runs = runs
+    still AwaitsAddress runs = runs
+    still AwaitsChoice runs = runs
+    still (AwaitsWord word) runs = runs
+    still (TakesData kind) runs = still-with kind runs
+    still (SendsByte source) runs = runs
+
+module _ (c : Control) (load : Load) (f : Fits c) where
+  -- so a chip with an empty load may go to any phase that its control may
+  pub moves : Unloaded c load → (phase : Phase) → placeFits phase ≡ true → not (isBusy phase && c .chosen) ≡ true → Good (inPhase phase c) load
+  moves empty phase place busy = (in-phase-fits c f phase place busy, unloaded-fits (inPhase phase c) load empty)
+
+  pub standby : Unloaded c load → Good (inPhase Standby c) load
+  standby empty = moves empty Standby refl refl
+
+  -- and one that takes data holds what is inside its page, where the next byte runs on
+  pub loads : (kind : Data) → Inside c load → nextDataRunsOn kind (inPhase (TakesData kind) c) (load .span) ≡ true → Good (inPhase (TakesData kind) c) load
+  loads kind inside next =
+      (in-phase-fits c f (TakesData kind) refl refl, and-both _ _ inside (and-both (onlyDataLoads (inPhase (TakesData kind) c) (load .span)) _ (or-right (isEmpty (load .span)) _ refl) next))
+
+-- a load that was inside is so once it is emptied, and then it fits
+pub emptied-unloaded : (c : Control) (load : Load) → Inside c load → Unloaded c (emptied load)
+emptied-unloaded c load inside = (dropped-inside (page c) (load .span) inside, refl)
+
+pub emptied-good : (c : Control) (load : Load) → Fits c → Inside c load → Good c (emptied load)
+emptied-good c load f inside = (f, unloaded-fits c (emptied load) (emptied-unloaded c load inside))

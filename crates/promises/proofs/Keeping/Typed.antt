@@ -1,26 +1,28 @@
 -- Every event keeps a chip a value of its type, where it is well formed: its numbers are then inside their regions, what came
 -- from the host is bytes, and its load has the length it had. By the relation that the checker itself has between values and
 -- what they denote.
-use Prim.Native.Nat.{ℕ, _<_}
+use Prim.Native.Nat.{ℕ, _<_, _≤_}
 use native.Mathlib.Omega.{arith}
 use mathlib.Core.Bool.{Bool, true, false, _||_}
 use mathlib.Core.List.{List, [], _∷_}
 use mathlib.Core.Path.{_≡_, _∙_, refl}
 use lib.Dec.{eqb}
-use lib.ListN.{length, length-map, length-set, length-replicate}
+use lib.ListN.{length, length-map, length-set}
 use mir.Syntax.{w8}
-use mir.Val.{Val, vbool, vint}
+use mir.Val.{Val, vint}
 use borrow.Author.Needs.{length-unmapped}
 use borrow.Author.Tests.{eqb-true, ltb-true}
-use denote.Builtin.{bool, u8}
+use denote.Builtin.{u8}
 use denote.Laws.{Is}
 use Rattle.base.specs.Every.{FitsByte, AllBytes}
-use Rattle.base.proofs.Every.{every-of, each-every, every-each}
+use Rattle.base.proofs.Every.{each-every, every-each}
 use Rattle.base.proofs.logic.Laws.{and-left, and-right}
 use Rattle.parts.specs.Part.{isPart, geometryOf}
 use Rattle.parts.proofs.part.Laws.{sound-of}
 use Rattle.load.specs.declared.Load.{Load}
+use Rattle.load.specs.Span.{insidePage}
 use Rattle.load.proofs.Load as loads
+use Rattle.load.proofs.Spanning.{first-below, count-most}
 use Rattle.control.specs.declared.Control.{Control}
 use Rattle.control.specs.declared.phase.Phase.{Phase}
 use Rattle.control.specs.declared.phase.Phase.the-variants.{Standby, Busy, AwaitsAddress, AwaitsChoice, AwaitsWord, TakesData, SendsByte}
@@ -45,7 +47,7 @@ use Rattle.chip.specs.declared.Chip.{Chip}
 use Rattle.chip.specs.declared.event.Event.{Event}
 use Rattle.chip.specs.Chip.{step}
 use Rattle.chip.proofs.Typed.{ChipTyped}
-use Rattle.wellformed.specs.Wellformed.{idPlaceFits, placeFits, wellFormed}
+use Rattle.wellformed.specs.Wellformed.{idPlaceFits, placeFits, controlFits, wellFormed}
 use Rattle.promises.specs.ChipBytes.{bytesCame, bytesTaken, bytesAwaiting, bytesIn, ChipBytes, EventByte}
 use Rattle.promises.proofs.Keeping.Bytes.{chip-keeps-bytes}
 use Rattle.promises.proofs.Keeping.Fits.{Fits, apart}
@@ -90,16 +92,8 @@ chip-bytes c typed =
     )
 
 -- and its load has its length
-pub record LoadLong (load : Load) : Type 0 where
-  pub marks : length (load .marks) ≡ 256
-  pub values : length (load .values) ≡ 256
-
-pub load-long : (c : Chip) → ChipTyped c → LoadLong (c .load)
-load-long c typed =
-    record {
-      marks = length-unmapped _ (c .load .marks) 256 (typed .is .1 .1 .1 .0 .1 .1 .0 .1 .0 .1);
-      values = length-unmapped _ (c .load .values) 256 (typed .is .1 .1 .1 .0 .1 .1 .1 .0 .1 .0 .1);
-    }
+pub values-long : (c : Chip) → ChipTyped c → length (c .load .values) ≡ 256
+values-long c typed = length-unmapped _ (c .load .values) 256 (typed .is .1 .1 .1 .0 .1 .1 .1 .0 .1 .0 .1)
 
 -- ---- and the other way: a well-formed chip that holds bytes, with a load of its length
 came-typed : (came : Came) → AllBytes (bytesCame came) → (u : Val) × Is cames.the-row came (u ∷ [])
@@ -192,26 +186,30 @@ control-typed c f bytes =
       ),
     )
 
-pub load-typed : (load : Load) → LoadLong load → AllBytes (load .values) → (u : Val) × Is loads.the-row load (u ∷ [])
-load-typed load long bytes =
-    let marks = every-each (λ (b : Bool). b) (bool .own) (λ (b : Bool). Unit {0}) (λ b any. vbool b) (λ b any. refl) (load .marks) (every-of _ (load .marks) false (λ i below. tt)) in
+-- a span inside a page of at most 256 bytes fits its two fields
+pub load-typed : (load : Load) (page : ℕ) → page ≤ 256 → insidePage page (load .span) ≡ true → length (load .values) ≡ 256 → AllBytes (load .values) → (u : Val) × Is loads.the-row load (u ∷ [])
+load-typed load page most inside long bytes =
     let values = every-each (λ (n : ℕ). n) (u8 .own) FitsByte (λ n fits. vint w8 n) (λ n fits. (refl, fits)) (load .values) bytes in
-    (_, ((_, (_, tt)), (refl, ((marks .0, ((refl, length-map (load .marks) _ ∙ long .marks), marks .1)), ((values .0, ((refl, length-map (load .values) _ ∙ long .values), values .1)), tt)))))
+    let first = first-below page (load .span) inside in
+    let count = count-most page (load .span) inside in
+    (_, ((_, (_, tt)), (refl, (((_, (_, tt)), (refl, ((refl, omega (arith, first)), ((refl, omega (arith, count)), tt)))), ((values .0, ((refl, length-map (load .values) _ ∙ long), values .1)), tt)))))
 
-typed-of : (c : Chip) → wellFormed c ≡ true → ChipBytes c → LoadLong (c .load) → ChipTyped c
+typed-of : (c : Chip) → wellFormed c ≡ true → ChipBytes c → length (c .load .values) ≡ 256 → ChipTyped c
 unfolding wellFormed
 typed-of c formed bytes long =
-    record { value = _; is = ((_, (_, tt)), (refl, (control-typed (c .control) (apart (c .control) (and-left _ _ formed)) (bytes .0) .1, (load-typed (c .load) long (bytes .1) .1, tt)))) }
+    let fits : Fits (c .control) = apart (c .control) (and-left _ _ formed) in
+    let inside = and-left (insidePage (geometryOf (c .control .part) .page) (c .load .span)) _ (and-right (controlFits (c .control)) _ formed) in
+    record {
+      value = _;
+      is = ((_, (_, tt)), (refl, (control-typed (c .control) fits (bytes .0) .1, (load-typed (c .load) _ (sound-of (c .control .part) .page-most) inside long (bytes .1) .1, tt))));
+    }
 
 -- so every event keeps it
-long-kept : (c : Chip) (array security : List ℕ) (event : Event) → EventByte event → LoadLong (c .load) → LoadLong (step c array security event .0 .chip .load)
+long-kept : (c : Chip) (array security : List ℕ) (event : Event) → EventByte event → length (c .load .values) ≡ 256
+    → length (step c array security event .0 .chip .load .values) ≡ 256
 long-kept c array security event brought long =
-    load-keeps c array security LoadLong long
-    (record { marks = length-replicate 256 false; values = long .values })
-    (λ at byte sent. record { marks = length-set (c .load .marks) _ true ∙ long .marks; values = length-set (c .load .values) _ byte ∙ long .values })
-    event
-    brought
+    load-keeps c array security (λ (load : Load). length (load .values) ≡ 256) long long (λ at byte sent. length-set (c .load .values) _ byte ∙ long) event brought
 
 pub chip-typed-kept : (c : Chip) (array security : List ℕ) (event : Event) → EventByte event → wellFormed c ≡ true → ChipTyped c → ChipTyped (step c array security event .0 .chip)
 chip-typed-kept c array security event brought formed typed =
-    typed-of _ (kept c array security event formed) (chip-keeps-bytes c array security (chip-bytes c typed) event brought) (long-kept c array security event brought (load-long c typed))
+    typed-of _ (kept c array security event formed) (chip-keeps-bytes c array security (chip-bytes c typed) event brought) (long-kept c array security event brought (values-long c typed))

@@ -2,13 +2,14 @@
 use Prim.Native.Nat.{ℕ}
 use mathlib.Core.Bool.{true}
 use mathlib.Core.List.{List}
-use mathlib.Core.Path.{_≡_, refl}
+use mathlib.Core.Path.{_≡_, refl, ap}
 use borrow.Author.Tests.{lt-ltb}
 use Rattle.base.proofs.logic.Laws.{and-left, and-right, and-both, either-if, either}
 use Rattle.parts.proofs.part.Laws.{sound-of}
 use Rattle.control.specs.declared.phase.Phase.the-variants.{Standby, AwaitsAddress}
 use Rattle.control.specs.declared.phase.Shown.the-variants.{ShowsSecurity}
-use Rattle.control.specs.Phase.{isBusy}
+use Rattle.control.specs.declared.Control.{Control}
+use Rattle.control.specs.Phase.{isBusy, takesData}
 use Rattle.control.proofs.phase.Laws.{busy-is}
 use Rattle.taking.specs.Taking.{take, loaded}
 use Rattle.sending.specs.Sending.{read}
@@ -20,10 +21,13 @@ use Rattle.chip.specs.Chip as chip
 use Rattle.wellformed.specs.Wellformed.{wellFormed}
 use Rattle.promises.proofs.Keeping.Fits.{Fits, apart, together, in-phase-fits, showing-fits, array-fits, security-fits, wp-fits}
 use Rattle.wellformed.specs.Wellformed.{isSetUp, controlFits}
+use Rattle.load.specs.declared.Load.{Load}
 use Rattle.load.specs.Load.{empty}
+use Rattle.load.proofs.Spanning.{unspanned-inside}
 use Rattle.control.specs.Control as control
 use Rattle.parts.proofs.part.Laws.{array-some}
-use Rattle.promises.proofs.Keeping.Good.{Good, dropped, standby, emptied-good}
+use Rattle.promises.proofs.Keeping.Good.{Good, Inside, inside-of, unloaded-of, wp-spans, dropped, standby, emptied-good}
+use Rattle.promises.proofs.Keeping.Closed.{Closed, stop-keeps}
 use Rattle.promises.proofs.Keeping.Taking.{take-good}
 use Rattle.promises.proofs.Keeping.Sending.{read-good}
 use Rattle.promises.proofs.Keeping.Stopping.{stop-fits}
@@ -37,28 +41,43 @@ formed-of : (c : Chip) → Good (c .control) (c .load) → wellFormed c ≡ true
 unfolding wellFormed
 formed-of c good = and-both _ _ (together (c .control) (good .0)) (good .1)
 
+-- no setter changes the part, so a load stays inside its page
+inside-closed : (load : Load) → Closed (λ (d : Control). Inside d load)
+inside-closed load =
+    record {
+      phase = λ c phase p. p;
+      shown = λ c shown p. p;
+      chosen = λ c picked p. p;
+      array = λ c at p. p;
+      security = λ c at p. p;
+      wp = λ c level p. p;
+      locks = λ c unlocked p. p;
+      configures = λ c byte0 byte1 unlocked p. p;
+    }
+
 module _ (c : Chip) (array security : List ℕ) (good : Good (c .control) (c .load)) where
   start-good : Good (chip.start c .control) (chip.start c .load)
   start-good =
       either (λ (x : Chip). Good (x .control) (x .load)) (isBusy (c .control .phase)) c _ good
-      (emptied-good _ (c .load) (in-phase-fits (c .control) (good .0) AwaitsAddress refl refl))
+      (emptied-good _ (c .load) (in-phase-fits (c .control) (good .0) AwaitsAddress refl refl) (inside-of (c .control) (c .load) (good .1)))
 
   stop-good : Good (chip.stop c array security .0 .control) (chip.stop c array security .0 .load)
   unfolding stop
   stop-good =
       either (λ (x : Chip × List ℕ × List ℕ). Good (x .0 .control) (x .0 .load)) (isBusy (c .control .phase)) (c, array, security) _ good
-      (emptied-good _ (c .load) (stop-fits (c .control .phase) (c .control) (c .load) array security (good .0)))
+      (emptied-good _ (c .load) (stop-fits (c .control .phase) (c .control) (c .load) array security (good .0))
+      (stop-keeps (λ (d : Control). Inside d (c .load)) (inside-closed (c .load)) (c .control .phase) (c .control) (c .load) array security (inside-of (c .control) (c .load) (good .1))))
 
   power-up-good : Good (chip.powerUp c .control) (chip.powerUp c .load)
   power-up-good =
       let counted = security-fits _ (array-fits _ (dropped (c .control) (good .0)) 0 (array-some (sound-of (c .control .part)))) 0 (sound-of (c .control .part) .security-some) in
-      emptied-good _ (c .load) (in-phase-fits _ (showing-fits _ counted ShowsSecurity) Standby refl refl)
+      emptied-good _ (c .load) (in-phase-fits _ (showing-fits _ counted ShowsSecurity) Standby refl refl) (inside-of (c .control) (c .load) (good .1))
 
   -- a busy chip holds no load, so it may go to standby
   over-good : Good (chip.cycleOver c .control) (chip.cycleOver c .load)
   over-good =
       either-if (λ (x : Chip). Good (x .control) (x .load)) (isBusy (c .control .phase)) _ c
-      (λ busy. standby (c .control) (c .load) (good .0) (rw (busy-is (c .control .phase) busy) at (good .1)))
+      (λ busy. standby (c .control) (c .load) (good .0) (unloaded-of (c .control) (c .load) (ap takesData (busy-is (c .control .phase) busy)) (good .1)))
       good
 
   step-good : (event : Event) → Good (chip.step c array security event .0 .chip .control) (chip.step c array security event .0 .chip .load)
@@ -67,7 +86,7 @@ module _ (c : Chip) (array security : List ℕ) (good : Good (c .control) (c .lo
   step-good Stop = stop-good
   step-good (Sent byte) = take-good (c .control .phase) (c .control) (c .load) byte refl good
   step-good (Read nack) = read-good (c .control .phase) (c .control) (c .load) array security nack refl good
-  step-good (Wp level) = (wp-fits (c .control) (good .0) level, good .1)
+  step-good (Wp level) = (wp-fits (c .control) (good .0) level, wp-spans (c .control) (c .load) level (good .1))
   step-good CycleOver = over-good
   step-good PowerUp = power-up-good
 
@@ -78,4 +97,4 @@ kept c array security event formed = formed-of _ (step-good c array security (go
 pub fresh-is-well-formed : (part strap : ℕ) → isSetUp (control.fresh part strap) ≡ true → wellFormed (chip.fresh part strap) ≡ true
 fresh-is-well-formed part strap set-up =
     let fits : Fits (control.fresh part strap) = record { set-up = set-up; array = lt-ltb _ _ (array-some (sound-of part)); security = lt-ltb _ _ (sound-of part .security-some); unused = refl; place = refl; busy = refl } in
-    formed-of (chip.fresh part strap) (emptied-good _ empty fits)
+    formed-of (chip.fresh part strap) (emptied-good _ empty fits (unspanned-inside _ (sound-of part .page-some)))

@@ -1,26 +1,35 @@
--- A place in a page is below 256, so both stores are inside the load.
-use Rattle.parts.proofs.part.Laws.{sound-of}
+-- A place in a page is below 256, so the store is inside the values.
 use Rattle.regions.proofs.page.Laws.{place-small}
+use Rattle.parts.proofs.part.Laws.{sound-of}
 use borrow.Author.Needs.{needs}
 use Rattle.load.proofs.Load.put.Statement.{statement}
 use Rattle.load.proofs.Load.put.Tie as tie
 
+geometry-of-requires : tie.Need-geometry-of-requires
+geometry-of-requires c κs = search needs
+
 place-of-requires : tie.Need-place-of-requires
 place-of-requires c κs = search needs
 
-cast-place : tie.Need-cast-place
-cast-place c = search needs
+cast-values : tie.Need-cast-values
+cast-values c = search needs
 
-element-write-load : tie.Need-element-write-load
-element-write-load c = rw (c .place-of .ensures) (place-small _ (sound-of (c .before .args .part)) (c .before .args .at))
+array-write-values : tie.Need-array-write-values
+array-write-values c = rw (c .before .before .place-of .ensures) (place-small _ (sound-of _) _)
 
-element-write-load-2 : tie.Need-element-write-load-2
-element-write-load-2 c = rw (c .place-of .ensures) (place-small _ (sound-of (c .before .args .part)) (c .before .args .at))
+grown-requires : tie.Need-grown-requires
+grown-requires c κs = let g = c .before .before .before .geometry-of in (rw (g .ensures) (sound-of _ .page-most), rw (c .before .before .place-of .ensures) (place-small _ (sound-of _) _))
 
 returns : tie.Need-returns
-returns c = rw (c .place-of .ensures)
+returns c = rw (c .grown .ensures, c .before .before .before .place-of .ensures, c .before .before .before .before .geometry-of .ensures)
 
 pub put-spec : {M : Type 1} → statement M
 put-spec =
     tie.close
-    (tie.spec place-of-requires cast-place element-write-load element-write-load-2 returns)
+    (tie.spec
+    geometry-of-requires
+    place-of-requires
+    cast-values
+    array-write-values
+    grown-requires
+    returns)

@@ -1,0 +1,139 @@
+-- What a Stop stores is the same for every load (request E10): for every load inside its page at whose counter the next byte runs on, as refusal 10
+-- asks of every one, and for every list of bytes that then come.
+use Prim.Native.Nat.{ℕ}
+use mathlib.Core.Bool.{Bool, true, false, cond, _&&_}
+use mathlib.Core.List.{List, [], _∷_}
+use mathlib.Core.Path.{_≡_, _∙_, refl, ap}
+use Rattle.base.proofs.logic.Laws.{and-left, and-right}
+use Rattle.parts.specs.declared.part.Geometry.{Geometry}
+use Rattle.parts.specs.Part.{Sound, geometryOf}
+use Rattle.parts.proofs.part.Laws.{sound-of}
+use Rattle.regions.specs.Page.{nextInPage}
+use Rattle.load.specs.declared.Load.{Load}
+use Rattle.load.specs.Span.{insidePage}
+use Rattle.load.specs.Load.{empty, put, holds, storePage}
+use Rattle.load.proofs.Spanning.{unspanned-inside}
+use Rattle.load.proofs.Laws.{put-inside, put-runs-on}
+use Rattle.control.specs.declared.Control.{Control}
+use Rattle.control.specs.declared.Said.{Said}
+use Rattle.control.specs.declared.phase.Phase.the-variants.{TakesData}
+use Rattle.control.specs.declared.phase.Data.{Data}
+use Rattle.control.specs.declared.phase.Data.the-variants.{ToArray, ToSecurity}
+use Rattle.control.specs.Control.{inPhase, arraycounterAt, securitycounterAt}
+use Rattle.taking.specs.Taking.{take, loaded}
+use Rattle.cycle.specs.Stop.{writesArray, writesSecurity, stop}
+use Rattle.chip.specs.declared.Stepped.{Stepped}
+use Rattle.chip.specs.declared.event.Event.the-variants.{Stop}
+use Rattle.chip.specs.Chip.{step}
+use Rattle.wellformed.specs.Wellformed.{controlFits, onlyDataLoads, nextDataRunsOn, spanFits, wellFormed}
+use Rattle.loads.specs.Marked as marked
+use Rattle.loads.specs.Loads.{marksOf, RunsOn, loadedFrom, markedFrom, takes, sentAndStopped, arrayAfter, securityAfter, arrayByMarks, securityByMarks}
+use Rattle.loads.proofs.Agree.{stores-agree, emptied-agrees, holds-agrees, put-agrees}
+
+module _ (g : Geometry) (sound : Sound g) where
+  runs-on : (at byte : ℕ) (load : Load) → RunsOn g at load → RunsOn g (nextInPage g at) (put g at byte load)
+  runs-on at byte load runs =
+      record { inside = put-inside g load (runs .inside) sound at byte; next = put-runs-on g load (runs .inside) sound at byte (runs .next) }
+
+  -- whatever bytes come, the load is inside its page, and the marks that it stands for are those that the bytes would have set
+  pub stays-inside : (bytes : List ℕ) (at : ℕ) (load : Load) → RunsOn g at load → insidePage (g .page) (loadedFrom g at bytes load .span) ≡ true
+  stays-inside [] at load runs = runs .inside
+  stays-inside (byte ∷ bytes) at load runs = stays-inside bytes (nextInPage g at) (put g at byte load) (runs-on at byte load runs)
+
+  pub bytes-agree : (bytes : List ℕ) (at : ℕ) (load : Load) → RunsOn g at load → marksOf g (loadedFrom g at bytes load) ≡ markedFrom g at bytes (marksOf g load)
+  bytes-agree [] at load runs = refl
+  bytes-agree (byte ∷ bytes) at load runs =
+      bytes-agree bytes (nextInPage g at) (put g at byte load) (runs-on at byte load runs)
+      ∙ ap (markedFrom g (nextInPage g at) bytes) (put-agrees g sound load (runs .inside) at byte (runs .next))
+
+  module _ (at : ℕ) (load : Load) (runs : RunsOn g at load) (bytes : List ℕ) where
+    -- so both hold a byte or neither does, and both leave the same store, on the page of any address
+    pub holds-the-same : holds g (loadedFrom g at bytes load) ≡ marked.holds g (markedFrom g at bytes (marksOf g load))
+    holds-the-same =
+        holds-agrees g sound (loadedFrom g at bytes load) (stays-inside bytes at load runs) ∙ ap (marked.holds g) (bytes-agree bytes at load runs)
+
+    pub stores-the-same : (page : ℕ) (store : List ℕ)
+        → storePage g page (loadedFrom g at bytes load) store ≡ marked.storePage g page (markedFrom g at bytes (marksOf g load)) store
+    stores-the-same page store =
+        stores-agree g sound page (loadedFrom g at bytes load) store ∙ ap (λ (held : marked.Load). marked.storePage g page held store) (bytes-agree bytes at load runs)
+
+  empty-runs-on : (at : ℕ) → RunsOn g at empty
+  empty-runs-on at = record { inside = unspanned-inside (g .page) (sound .page-some); next = refl }
+
+  empty-unmarked : marksOf g empty ≡ marked.empty
+  empty-unmarked = emptied-agrees g sound empty (unspanned-inside (g .page) (sound .page-some))
+
+  -- from an empty load, any list of bytes from any address
+  pub same-from-empty : (at : ℕ) (bytes : List ℕ) (page : ℕ) (store : List ℕ)
+      → storePage g page (loadedFrom g at bytes empty) store ≡ marked.storePage g page (markedFrom g at bytes marked.empty) store
+  same-from-empty at bytes page store =
+      stores-the-same at empty (empty-runs-on at) bytes page store
+      ∙ ap (λ (held : marked.Load). marked.storePage g page (markedFrom g at bytes held) store) empty-unmarked
+
+-- each byte of either kind is loaded and moves its counter on
+array-sent : (bytes : List ℕ) (c : Control) (load : Load) (said : Said) (array security : List ℕ)
+    → sentAndStopped bytes (takes ToArray c load) said array security
+    ≡ step (record { control = arrayAfter bytes c; load = loadedFrom (geometryOf (c .part)) (c .arraycounter) bytes load }) array security Stop
+unfolding step take loaded
+array-sent [] c load said array security = refl
+array-sent (byte ∷ bytes) c load said array security =
+    let g = geometryOf (c .part) in array-sent bytes (arraycounterAt (nextInPage g (c .arraycounter)) c) (put g (c .arraycounter) byte load) _ array security
+
+security-sent : (bytes : List ℕ) (c : Control) (load : Load) (said : Said) (array security : List ℕ)
+    → sentAndStopped bytes (takes ToSecurity c load) said array security
+    ≡ step (record { control = securityAfter bytes c; load = loadedFrom (geometryOf (c .part)) (c .securitycounter) bytes load }) array security Stop
+unfolding step take loaded
+security-sent [] c load said array security = refl
+security-sent (byte ∷ bytes) c load said array security =
+    let g = geometryOf (c .part) in security-sent bytes (securitycounterAt (nextInPage g (c .securitycounter)) c) (put g (c .securitycounter) byte load) _ array security
+
+-- a Stop by the marks
+second-of : {A : Type 0} (test : Bool) (a b : A) (x y : List ℕ) → cond {A = A × List ℕ} test (a, x) (b, y) .1 ≡ cond test x y
+second-of true a b x y = refl
+second-of false a b x y = refl
+
+module _ (c : Control) (load : Load) (array security : List ℕ) (inside : insidePage (geometryOf (c .part) .page) (load .span) ≡ true) where
+  stop-array : step (takes ToArray c load) array security Stop .1 ≡ arrayByMarks (inPhase (TakesData ToArray) c) (marksOf (geometryOf (c .part)) load) array
+  unfolding step stop
+  stop-array =
+      second-of (writesArray (inPhase (TakesData ToArray) c) load) _ _ _ array
+      ∙ rw (holds-agrees _ (sound-of (c .part)) load inside, stores-agree _ (sound-of (c .part)) (c .arraycounter) load array)
+
+  stop-security : step (takes ToSecurity c load) array security Stop .2 ≡ securityByMarks (inPhase (TakesData ToSecurity) c) (marksOf (geometryOf (c .part)) load) security
+  unfolding step stop
+  stop-security =
+      second-of (writesSecurity (inPhase (TakesData ToSecurity) c) load) _ _ _ security
+      ∙ rw (holds-agrees _ (sound-of (c .part)) load inside, stores-agree _ (sound-of (c .part)) (c .securitycounter) load security)
+
+-- what 10 asks of a chip that takes data
+data-clauses : (kind : Data) (c : Control) (load : Load) → wellFormed (takes kind c load) ≡ true
+    → (insidePage (geometryOf (c .part) .page) (load .span) ≡ true) × (nextDataRunsOn kind (inPhase (TakesData kind) c) (load .span) ≡ true)
+unfolding wellFormed
+data-clauses kind c load formed =
+    let d : Control = inPhase (TakesData kind) c in
+    let spans : spanFits d (load .span) ≡ true = and-right (controlFits d) _ formed in
+    let rest : (onlyDataLoads d (load .span) && nextDataRunsOn kind d (load .span)) ≡ true = and-right (insidePage (geometryOf (c .part) .page) (load .span)) _ spans in
+    (and-left _ _ spans, and-right (onlyDataLoads d (load .span)) _ rest)
+
+-- what a Stop stores is the same for every load: of every chip that takes data and that 10 lets through, after every list of bytes
+pub same-for-every-array-load : (c : Control) (load : Load) → wellFormed (takes ToArray c load) ≡ true
+    → (bytes : List ℕ) (said : Said) (array security : List ℕ)
+    → sentAndStopped bytes (takes ToArray c load) said array security .1
+    ≡ arrayByMarks (arrayAfter bytes c) (markedFrom (geometryOf (c .part)) (c .arraycounter) bytes (marksOf (geometryOf (c .part)) load)) array
+same-for-every-array-load c load formed bytes said array security =
+    let (inside, next) = data-clauses ToArray c load formed in
+    let runs : RunsOn (geometryOf (c .part)) (c .arraycounter) load = record { inside = inside; next = next } in
+    ap (λ (x : Stepped × List ℕ × List ℕ). x .1) (array-sent bytes c load said array security)
+    ∙ stop-array (arrayAfter bytes c) _ array security (stays-inside _ (sound-of (c .part)) bytes (c .arraycounter) load runs)
+    ∙ ap (λ (held : marked.Load). arrayByMarks (arrayAfter bytes c) held array) (bytes-agree _ (sound-of (c .part)) bytes (c .arraycounter) load runs)
+
+pub same-for-every-security-load : (c : Control) (load : Load) → wellFormed (takes ToSecurity c load) ≡ true
+    → (bytes : List ℕ) (said : Said) (array security : List ℕ)
+    → sentAndStopped bytes (takes ToSecurity c load) said array security .2
+    ≡ securityByMarks (securityAfter bytes c) (markedFrom (geometryOf (c .part)) (c .securitycounter) bytes (marksOf (geometryOf (c .part)) load)) security
+same-for-every-security-load c load formed bytes said array security =
+    let (inside, next) = data-clauses ToSecurity c load formed in
+    let runs : RunsOn (geometryOf (c .part)) (c .securitycounter) load = record { inside = inside; next = next } in
+    ap (λ (x : Stepped × List ℕ × List ℕ). x .2) (security-sent bytes c load said array security)
+    ∙ stop-security (securityAfter bytes c) _ array security (stays-inside _ (sound-of (c .part)) bytes (c .securitycounter) load runs)
+    ∙ ap (λ (held : marked.Load). securityByMarks (securityAfter bytes c) held security) (bytes-agree _ (sound-of (c .part)) bytes (c .securitycounter) load runs)

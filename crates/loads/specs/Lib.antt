@@ -1,0 +1,2 @@
+pub mod Marked
+pub mod Loads

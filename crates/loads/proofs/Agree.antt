@@ -25,7 +25,7 @@ use Rattle.loads.specs.Loads.{marksOf}
 
 module _ (g : Geometry) (sound : Sound g) where
   marks-long : (load : Load) → length (marksOf g load .marks) ≡ 256
-  marks-long load = filled-length (isLoaded g load) (replicate 256 false) (g .page) ∙ length-replicate 256 false
+  marks-long load = filled-length _ (replicate 256 false) (g .page) ∙ length-replicate 256 false
 
   -- a place of the page is marked where it is loaded, and one past it is not
   pub marked-there : (load : Load) (place : ℕ) → place < g .page → marked.isMarked (marksOf g load) place ≡ isLoaded g load place

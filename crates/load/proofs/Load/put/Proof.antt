@@ -1,6 +1,8 @@
 -- A place in a page is below 256, so the store is inside the values.
 use Rattle.regions.proofs.page.Laws.{place-small}
 use Rattle.parts.proofs.part.Laws.{sound-of}
+use Prim.Native.Nat.{_≤_}
+use native.Mathlib.Omega.{arith}
 use borrow.Author.Needs.{needs}
 use Rattle.load.proofs.Load.put.Statement.{statement}
 use Rattle.load.proofs.Load.put.Tie as tie
@@ -18,7 +20,10 @@ array-write-values : tie.Need-array-write-values
 array-write-values c = rw (c .before .before .place-of .ensures) (place-small _ (sound-of _) _)
 
 grown-requires : tie.Need-grown-requires
-grown-requires c κs = let g = c .before .before .before .geometry-of in (rw (g .ensures) (sound-of _ .page-most), rw (c .before .before .place-of .ensures) (place-small _ (sound-of _) _))
+grown-requires c κs =
+    let g = c .before .before .before .geometry-of in
+    let most : g .result .page ≤ 256 = rw (g .ensures) (sound-of _ .page-most) in
+    (omega (arith, most), rw (c .before .before .place-of .ensures) (place-small _ (sound-of _) _))
 
 returns : tie.Need-returns
 returns c = rw (c .grown .ensures, c .before .before .before .place-of .ensures, c .before .before .before .before .geometry-of .ensures)

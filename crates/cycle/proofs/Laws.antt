@@ -34,18 +34,16 @@ module _ (c : Control) (load : Load) where
   abbrev g : Geometry
   g = geometryOf (c .part)
 
-  pub stop-lays-array : (array : List ℕ) → stopArray c load array .1 ≡ cond (writesArray c load) (laid g (pageOf g (c .arraycounter) * g .page) (choiceOf g load) array) array
-  stop-lays-array array = go (writesArray c load)
-    where
-      go : (writes : Bool) → cond {A = Control × List ℕ} writes (busyNow c, storePage g (c .arraycounter) load array) (standbyNow c, array) .1
-          ≡ cond writes (laid g (pageOf g (c .arraycounter) * g .page) (choiceOf g load) array) array
-      go true = stored-laid g (c .arraycounter) load array
-      go false = refl
+  -- what was loaded, laid on the page of a counter
+  abbrev laidAt : ℕ → List ℕ → List ℕ
+  laidAt at store = laid g (pageOf g at * g .page) (choiceOf g load) store
 
-  pub stop-lays-security : (security : List ℕ) → stopSecurity c load security .1 ≡ cond (writesSecurity c load) (laid g (pageOf g (c .securitycounter) * g .page) (choiceOf g load) security) security
-  stop-lays-security security = go (writesSecurity c load)
-    where
-      go : (writes : Bool) → cond {A = Control × List ℕ} writes (busyNow c, storePage g (c .securitycounter) load security) (standbyNow c, security) .1
-          ≡ cond writes (laid g (pageOf g (c .securitycounter) * g .page) (choiceOf g load) security) security
-      go true = stored-laid g (c .securitycounter) load security
-      go false = refl
+  lays : (writes : Bool) (at : ℕ) (store : List ℕ) → cond {A = Control × List ℕ} writes (busyNow c, storePage g at load store) (standbyNow c, store) .1 ≡ cond writes (laidAt at store) store
+  lays true at store = stored-laid g at load store
+  lays false at store = refl
+
+  pub stop-lays-array : (array : List ℕ) → stopArray c load array .1 ≡ cond (writesArray c load) (laidAt (c .arraycounter) array) array
+  stop-lays-array = lays (writesArray c load) (c .arraycounter)
+
+  pub stop-lays-security : (security : List ℕ) → stopSecurity c load security .1 ≡ cond (writesSecurity c load) (laidAt (c .securitycounter) security) security
+  stop-lays-security = lays (writesSecurity c load) (c .securitycounter)

@@ -27,7 +27,7 @@ use Rattle.chip.specs.declared.event.Event.the-variants.{Stop}
 use Rattle.chip.specs.Chip.{step}
 use Rattle.wellformed.specs.Wellformed.{controlFits, onlyDataLoads, nextDataRunsOn, spanFits, wellFormed}
 use Rattle.loads.specs.Marked as marked
-use Rattle.loads.specs.Loads.{marksOf, RunsOn, loadedFrom, markedFrom, takes, sentAndStopped, arrayAfter, securityAfter, arrayByMarks, securityByMarks}
+use Rattle.loads.specs.Loads.{marksOf, RunsOn, loadedFrom, markedFrom, takes, sentAndStopped, arrayAfter, securityAfter, byMarks, arrayByMarks, securityByMarks}
 use Rattle.loads.proofs.Agree.{stores-agree, emptied-agrees, holds-agrees, put-agrees}
 
 module _ (g : Geometry) (sound : Sound g) where
@@ -56,6 +56,12 @@ module _ (g : Geometry) (sound : Sound g) where
         → storePage g page (loadedFrom g at bytes load) store ≡ marked.storePage g page (markedFrom g at bytes (marksOf g load)) store
     stores-the-same page store =
         stores-agree g sound page (loadedFrom g at bytes load) store ∙ ap (λ (held : marked.Load). marked.storePage g page held store) (bytes-agree bytes at load runs)
+
+    -- and what a Stop leaves is the same
+    pub stops-the-same : (free : Bool) (page : ℕ) (store : List ℕ)
+        → cond (holds g (loadedFrom g at bytes load) && free) (storePage g page (loadedFrom g at bytes load) store) store
+        ≡ byMarks free g page (markedFrom g at bytes (marksOf g load)) store
+    stops-the-same free page store = rw (holds-the-same, stores-the-same page store)
 
   empty-runs-on : (at : ℕ) → RunsOn g at empty
   empty-runs-on at = record { inside = unspanned-inside (g .page) (sound .page-some); next = refl }
@@ -87,23 +93,10 @@ security-sent [] c load said array security = refl
 security-sent (byte ∷ bytes) c load said array security =
     let g = geometryOf (c .part) in security-sent bytes (securitycounterAt (nextInPage g (c .securitycounter)) c) (put g (c .securitycounter) byte load) _ array security
 
--- a Stop by the marks
-second-of : {A : Type 0} (test : Bool) (a b : A) (x y : List ℕ) → cond {A = A × List ℕ} test (a, x) (b, y) .1 ≡ cond test x y
-second-of true a b x y = refl
-second-of false a b x y = refl
-
-module _ (c : Control) (load : Load) (array security : List ℕ) (inside : insidePage (geometryOf (c .part) .page) (load .span) ≡ true) where
-  stop-array : step (takes ToArray c load) array security Stop .1 ≡ arrayByMarks (inPhase (TakesData ToArray) c) (marksOf (geometryOf (c .part)) load) array
-  unfolding step stop
-  stop-array =
-      second-of (writesArray (inPhase (TakesData ToArray) c) load) _ _ _ array
-      ∙ rw (holds-agrees _ (sound-of (c .part)) load inside, stores-agree _ (sound-of (c .part)) (c .arraycounter) load array)
-
-  stop-security : step (takes ToSecurity c load) array security Stop .2 ≡ securityByMarks (inPhase (TakesData ToSecurity) c) (marksOf (geometryOf (c .part)) load) security
-  unfolding step stop
-  stop-security =
-      second-of (writesSecurity (inPhase (TakesData ToSecurity) c) load) _ _ _ security
-      ∙ rw (holds-agrees _ (sound-of (c .part)) load inside, stores-agree _ (sound-of (c .part)) (c .securitycounter) load security)
+-- the store of what a Stop comes to
+store-of : {A : Type 0} (test : Bool) (a b : A) (x y : List ℕ) → cond {A = A × List ℕ} test (a, x) (b, y) .1 ≡ cond test x y
+store-of true a b x y = refl
+store-of false a b x y = refl
 
 -- what 10 asks of a chip that takes data
 data-clauses : (kind : Data) (c : Control) (load : Load) → wellFormed (takes kind c load) ≡ true
@@ -120,20 +113,22 @@ pub same-for-every-array-load : (c : Control) (load : Load) → wellFormed (take
     → (bytes : List ℕ) (said : Said) (array security : List ℕ)
     → sentAndStopped bytes (takes ToArray c load) said array security .1
     ≡ arrayByMarks (arrayAfter bytes c) (markedFrom (geometryOf (c .part)) (c .arraycounter) bytes (marksOf (geometryOf (c .part)) load)) array
+unfolding step stop
 same-for-every-array-load c load formed bytes said array security =
     let (inside, next) = data-clauses ToArray c load formed in
     let runs : RunsOn (geometryOf (c .part)) (c .arraycounter) load = record { inside = inside; next = next } in
     ap (λ (x : Stepped × List ℕ × List ℕ). x .1) (array-sent bytes c load said array security)
-    ∙ stop-array (arrayAfter bytes c) _ array security (stays-inside _ (sound-of (c .part)) bytes (c .arraycounter) load runs)
-    ∙ ap (λ (held : marked.Load). arrayByMarks (arrayAfter bytes c) held array) (bytes-agree _ (sound-of (c .part)) bytes (c .arraycounter) load runs)
+    ∙ store-of (writesArray (arrayAfter bytes c) (loadedFrom (geometryOf (c .part)) (c .arraycounter) bytes load)) _ _ _ array
+    ∙ stops-the-same _ (sound-of (c .part)) (c .arraycounter) load runs bytes _ _ array
 
 pub same-for-every-security-load : (c : Control) (load : Load) → wellFormed (takes ToSecurity c load) ≡ true
     → (bytes : List ℕ) (said : Said) (array security : List ℕ)
     → sentAndStopped bytes (takes ToSecurity c load) said array security .2
     ≡ securityByMarks (securityAfter bytes c) (markedFrom (geometryOf (c .part)) (c .securitycounter) bytes (marksOf (geometryOf (c .part)) load)) security
+unfolding step stop
 same-for-every-security-load c load formed bytes said array security =
     let (inside, next) = data-clauses ToSecurity c load formed in
     let runs : RunsOn (geometryOf (c .part)) (c .securitycounter) load = record { inside = inside; next = next } in
     ap (λ (x : Stepped × List ℕ × List ℕ). x .2) (security-sent bytes c load said array security)
-    ∙ stop-security (securityAfter bytes c) _ array security (stays-inside _ (sound-of (c .part)) bytes (c .securitycounter) load runs)
-    ∙ ap (λ (held : marked.Load). securityByMarks (securityAfter bytes c) held security) (bytes-agree _ (sound-of (c .part)) bytes (c .securitycounter) load runs)
+    ∙ store-of (writesSecurity (securityAfter bytes c) (loadedFrom (geometryOf (c .part)) (c .securitycounter) bytes load)) _ _ _ security
+    ∙ stops-the-same _ (sound-of (c .part)) (c .securitycounter) load runs bytes _ _ security

@@ -64,13 +64,14 @@ arrayAfter bytes c = inPhase (TakesData ToArray) (arraycounterAt (addressAfter (
 abbrev pub securityAfter : List ℕ → Control → Control
 securityAfter bytes c = inPhase (TakesData ToSecurity) (securitycounterAt (addressAfter (geometryOf (c .part)) (c .securitycounter) bytes) c)
 
--- what a Stop left in each store by the marks: the text of `stopArray` and `stopSecurity` over the load as it was
+-- what a Stop left in a store by the marks, where the page of the counter is free to be written: the text of `stopArray` and `stopSecurity` over
+-- the load as it was
+abbrev pub byMarks : Bool → Geometry → ℕ → marked.Load → List ℕ → List ℕ
+byMarks free g at load store = cond (marked.holds g load && free) (marked.storePage g at load store) store
+
 abbrev pub arrayByMarks : Control → marked.Load → List ℕ → List ℕ
-arrayByMarks c load array =
-    cond (marked.holds (geometryOf (c .part)) load && not (isProtected c)) (marked.storePage (geometryOf (c .part)) (c .arraycounter) load array) array
+arrayByMarks c = byMarks (not (isProtected c)) (geometryOf (c .part)) (c .arraycounter)
 
 abbrev pub securityByMarks : Control → marked.Load → List ℕ → List ℕ
-securityByMarks c load security =
-    cond (marked.holds (geometryOf (c .part)) load && (inIdPage (geometryOf (c .part)) (c .securitycounter) && not (idPageProtected c)))
-    (marked.storePage (geometryOf (c .part)) (c .securitycounter) load security)
-    security
+securityByMarks c =
+    byMarks (inIdPage (geometryOf (c .part)) (c .securitycounter) && not (idPageProtected c)) (geometryOf (c .part)) (c .securitycounter)

@@ -24,7 +24,7 @@ abbrev registers : Control → Registers
 registers c = record { part = c .part; strap = c .strap; idlocked = c .idlocked; config0 = c .config0; config1 = c .config1 }
 
 -- all setters but two leave them
-leave : (Q : Registers → Type 0)
+pub leave : (Q : Registers → Type 0)
     → ((c : Control) → c .idlocked ≡ false → Q (registers c) → Q (registers (idlockedNow c)))
     → ((c : Control) (byte0 byte1 : ℕ) → configlock c ≡ false → Q (registers c) → Q (registers (configured byte0 byte1 c)))
     → Closed (λ (c : Control). Q (registers c))

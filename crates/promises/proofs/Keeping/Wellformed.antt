@@ -5,6 +5,7 @@ use mathlib.Core.List.{List}
 use mathlib.Core.Path.{_≡_, refl, ap}
 use borrow.Author.Tests.{lt-ltb}
 use Rattle.base.proofs.logic.Laws.{and-left, and-right, and-both, either-if, either}
+use Rattle.parts.specs.Part.{geometryOf}
 use Rattle.parts.proofs.part.Laws.{sound-of}
 use Rattle.control.specs.declared.phase.Phase.the-variants.{Standby, AwaitsAddress}
 use Rattle.control.specs.declared.phase.Shown.the-variants.{ShowsSecurity}
@@ -22,12 +23,14 @@ use Rattle.wellformed.specs.Wellformed.{wellFormed}
 use Rattle.promises.proofs.Keeping.Fits.{Fits, apart, together, in-phase-fits, showing-fits, array-fits, security-fits, wp-fits}
 use Rattle.wellformed.specs.Wellformed.{isSetUp, controlFits}
 use Rattle.load.specs.declared.Load.{Load}
+use Rattle.load.specs.Span.{insidePage}
 use Rattle.load.specs.Load.{empty}
 use Rattle.load.proofs.Spanning.{unspanned-inside}
 use Rattle.control.specs.Control as control
 use Rattle.parts.proofs.part.Laws.{array-some}
 use Rattle.promises.proofs.Keeping.Good.{Good, Inside, inside-of, unloaded-of, wp-spans, dropped, standby, emptied-good}
 use Rattle.promises.proofs.Keeping.Closed.{Closed, stop-keeps}
+use Rattle.promises.proofs.Keeping.Registers.{Registers, leave}
 use Rattle.promises.proofs.Keeping.Taking.{take-good}
 use Rattle.promises.proofs.Keeping.Sending.{read-good}
 use Rattle.promises.proofs.Keeping.Stopping.{stop-fits}
@@ -44,16 +47,7 @@ formed-of c good = and-both _ _ (together (c .control) (good .0)) (good .1)
 -- no setter changes the part, so a load stays inside its page
 inside-closed : (load : Load) → Closed (λ (d : Control). Inside d load)
 inside-closed load =
-    record {
-      phase = λ c phase p. p;
-      shown = λ c shown p. p;
-      chosen = λ c picked p. p;
-      array = λ c at p. p;
-      security = λ c at p. p;
-      wp = λ c level p. p;
-      locks = λ c unlocked p. p;
-      configures = λ c byte0 byte1 unlocked p. p;
-    }
+    leave (λ (r : Registers). insidePage (geometryOf (r .part) .page) (load .span) ≡ true) (λ d unlocked is. is) (λ d byte0 byte1 unlocked is. is)
 
 module _ (c : Chip) (array security : List ℕ) (good : Good (c .control) (c .load)) where
   start-good : Good (chip.start c .control) (chip.start c .load)

@@ -26,7 +26,7 @@ put g at value load =
 abbrev pub isLoaded : Geometry → Load → ℕ → Bool
 isLoaded g load place = covers (g .page) (load .span) place
 
--- at least one byte of the page is loaded
+-- at least one byte is loaded; which page it is of is not asked, since each is one of its part's
 abbrev pub holds : Geometry → Load → Bool
 holds g load = not (isEmpty (load .span))
 

@@ -27,35 +27,35 @@ use Rattle.chip.specs.declared.event.Event.the-variants.{Stop}
 use Rattle.chip.specs.Chip.{step}
 use Rattle.wellformed.specs.Wellformed.{controlFits, onlyDataLoads, nextDataRunsOn, spanFits, wellFormed}
 use Rattle.loads.specs.Marked as marked
-use Rattle.loads.specs.Loads.{marksOf, RunsOn, loadedFrom, markedFrom, takes, sentAndStopped, arrayAfter, securityAfter, byMarks, arrayByMarks, securityByMarks}
+use Rattle.loads.specs.Loads.{marksOf, Accepted, loadedFrom, markedFrom, takes, sentAndStopped, arrayAfter, securityAfter, byMarks, arrayByMarks, securityByMarks}
 use Rattle.loads.proofs.Agree.{stores-agree, emptied-agrees, holds-agrees, put-agrees}
 
 module _ (g : Geometry) (sound : Sound g) where
-  runs-on : (at byte : ℕ) (load : Load) → RunsOn g at load → RunsOn g (nextInPage g at) (put g at byte load)
-  runs-on at byte load runs =
-      record { inside = put-inside g load (runs .inside) sound at byte; next = put-runs-on g load (runs .inside) sound at byte (runs .next) }
+  stays-accepted : (at byte : ℕ) (load : Load) → Accepted g at load → Accepted g (nextInPage g at) (put g at byte load)
+  stays-accepted at byte load accepted =
+      record { inside = put-inside g load (accepted .inside) sound at byte; next = put-runs-on g load (accepted .inside) sound at byte (accepted .next) }
 
   -- whatever bytes come, the load is inside its page, and the marks that it stands for are those that the bytes would have set
-  pub stays-inside : (bytes : List ℕ) (at : ℕ) (load : Load) → RunsOn g at load → insidePage (g .page) (loadedFrom g at bytes load .span) ≡ true
-  stays-inside [] at load runs = runs .inside
-  stays-inside (byte ∷ bytes) at load runs = stays-inside bytes (nextInPage g at) (put g at byte load) (runs-on at byte load runs)
+  pub stays-inside : (bytes : List ℕ) (at : ℕ) (load : Load) → Accepted g at load → insidePage (g .page) (loadedFrom g at bytes load .span) ≡ true
+  stays-inside [] at load accepted = accepted .inside
+  stays-inside (byte ∷ bytes) at load accepted = stays-inside bytes (nextInPage g at) (put g at byte load) (stays-accepted at byte load accepted)
 
-  pub bytes-agree : (bytes : List ℕ) (at : ℕ) (load : Load) → RunsOn g at load → marksOf g (loadedFrom g at bytes load) ≡ markedFrom g at bytes (marksOf g load)
-  bytes-agree [] at load runs = refl
-  bytes-agree (byte ∷ bytes) at load runs =
-      bytes-agree bytes (nextInPage g at) (put g at byte load) (runs-on at byte load runs)
-      ∙ ap (markedFrom g (nextInPage g at) bytes) (put-agrees g sound load (runs .inside) at byte (runs .next))
+  pub bytes-agree : (bytes : List ℕ) (at : ℕ) (load : Load) → Accepted g at load → marksOf g (loadedFrom g at bytes load) ≡ markedFrom g at bytes (marksOf g load)
+  bytes-agree [] at load accepted = refl
+  bytes-agree (byte ∷ bytes) at load accepted =
+      bytes-agree bytes (nextInPage g at) (put g at byte load) (stays-accepted at byte load accepted)
+      ∙ ap (markedFrom g (nextInPage g at) bytes) (put-agrees g sound load (accepted .inside) at byte (accepted .next))
 
-  module _ (at : ℕ) (load : Load) (runs : RunsOn g at load) (bytes : List ℕ) where
+  module _ (at : ℕ) (load : Load) (accepted : Accepted g at load) (bytes : List ℕ) where
     -- so both hold a byte or neither does, and both leave the same store, on the page of any address
     pub holds-the-same : holds g (loadedFrom g at bytes load) ≡ marked.holds g (markedFrom g at bytes (marksOf g load))
     holds-the-same =
-        holds-agrees g sound (loadedFrom g at bytes load) (stays-inside bytes at load runs) ∙ ap (marked.holds g) (bytes-agree bytes at load runs)
+        holds-agrees g sound (loadedFrom g at bytes load) (stays-inside bytes at load accepted) ∙ ap (marked.holds g) (bytes-agree bytes at load accepted)
 
     pub stores-the-same : (page : ℕ) (store : List ℕ)
         → storePage g page (loadedFrom g at bytes load) store ≡ marked.storePage g page (markedFrom g at bytes (marksOf g load)) store
     stores-the-same page store =
-        stores-agree g sound page (loadedFrom g at bytes load) store ∙ ap (λ (held : marked.Load). marked.storePage g page held store) (bytes-agree bytes at load runs)
+        stores-agree g sound page (loadedFrom g at bytes load) store ∙ ap (λ (held : marked.Load). marked.storePage g page held store) (bytes-agree bytes at load accepted)
 
     -- and what a Stop leaves is the same
     pub stops-the-same : (free : Bool) (page : ℕ) (store : List ℕ)
@@ -63,8 +63,8 @@ module _ (g : Geometry) (sound : Sound g) where
         ≡ byMarks free g page (markedFrom g at bytes (marksOf g load)) store
     stops-the-same free page store = rw (holds-the-same, stores-the-same page store)
 
-  empty-runs-on : (at : ℕ) → RunsOn g at empty
-  empty-runs-on at = record { inside = unspanned-inside (g .page) (sound .page-some); next = refl }
+  empty-accepted : (at : ℕ) → Accepted g at empty
+  empty-accepted at = record { inside = unspanned-inside (g .page) (sound .page-some); next = refl }
 
   empty-unmarked : marksOf g empty ≡ marked.empty
   empty-unmarked = emptied-agrees g sound empty (unspanned-inside (g .page) (sound .page-some))
@@ -73,7 +73,7 @@ module _ (g : Geometry) (sound : Sound g) where
   pub same-from-empty : (at : ℕ) (bytes : List ℕ) (page : ℕ) (store : List ℕ)
       → storePage g page (loadedFrom g at bytes empty) store ≡ marked.storePage g page (markedFrom g at bytes marked.empty) store
   same-from-empty at bytes page store =
-      stores-the-same at empty (empty-runs-on at) bytes page store
+      stores-the-same at empty (empty-accepted at) bytes page store
       ∙ ap (λ (held : marked.Load). marked.storePage g page (markedFrom g at bytes held) store) empty-unmarked
 
 -- each byte of either kind is loaded and moves its counter on
@@ -116,10 +116,10 @@ pub same-for-every-array-load : (c : Control) (load : Load) → wellFormed (take
 unfolding step stop
 same-for-every-array-load c load formed bytes said array security =
     let (inside, next) = data-clauses ToArray c load formed in
-    let runs : RunsOn (geometryOf (c .part)) (c .arraycounter) load = record { inside = inside; next = next } in
+    let accepted : Accepted (geometryOf (c .part)) (c .arraycounter) load = record { inside = inside; next = next } in
     ap (λ (x : Stepped × List ℕ × List ℕ). x .1) (array-sent bytes c load said array security)
     ∙ store-of (writesArray (arrayAfter bytes c) (loadedFrom (geometryOf (c .part)) (c .arraycounter) bytes load)) _ _ _ array
-    ∙ stops-the-same _ (sound-of (c .part)) (c .arraycounter) load runs bytes _ _ array
+    ∙ stops-the-same _ (sound-of (c .part)) (c .arraycounter) load accepted bytes _ _ array
 
 pub same-for-every-security-load : (c : Control) (load : Load) → wellFormed (takes ToSecurity c load) ≡ true
     → (bytes : List ℕ) (said : Said) (array security : List ℕ)
@@ -128,7 +128,7 @@ pub same-for-every-security-load : (c : Control) (load : Load) → wellFormed (t
 unfolding step stop
 same-for-every-security-load c load formed bytes said array security =
     let (inside, next) = data-clauses ToSecurity c load formed in
-    let runs : RunsOn (geometryOf (c .part)) (c .securitycounter) load = record { inside = inside; next = next } in
+    let accepted : Accepted (geometryOf (c .part)) (c .securitycounter) load = record { inside = inside; next = next } in
     ap (λ (x : Stepped × List ℕ × List ℕ). x .2) (security-sent bytes c load said array security)
     ∙ store-of (writesSecurity (securityAfter bytes c) (loadedFrom (geometryOf (c .part)) (c .securitycounter) bytes load)) _ _ _ security
-    ∙ stops-the-same _ (sound-of (c .part)) (c .securitycounter) load runs bytes _ _ security
+    ∙ stops-the-same _ (sound-of (c .part)) (c .securitycounter) load accepted bytes _ _ security

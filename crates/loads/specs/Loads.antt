@@ -32,8 +32,8 @@ marksOf g load =
       values = load .values;
     }
 
--- a load inside its page at whose counter the next byte runs on
-pub record RunsOn (g : Geometry) (at : ℕ) (load : Load) : Type 0 where
+-- a load as 10 accepts it where data come at an address: inside its page, and the next byte runs on
+pub record Accepted (g : Geometry) (at : ℕ) (load : Load) : Type 0 where
   pub inside : insidePage (g .page) (load .span) ≡ true
   pub next : runsOn (g .page) (load .span) (placeOf g at) ≡ true
 
@@ -57,7 +57,7 @@ takes kind c load = record { control = inPhase (TakesData kind) c; load = load }
 abbrev pub sentAndStopped : List ℕ → Chip → Said → List ℕ → List ℕ → Stepped × List ℕ × List ℕ
 sentAndStopped bytes c said array security = chipPlayed (map Sent bytes ++ (Stop ∷ [])) (record { chip = c; said = said }, array, security)
 
--- its control and its load when the Stop comes
+-- its control when the Stop comes
 abbrev pub arrayAfter : List ℕ → Control → Control
 arrayAfter bytes c = inPhase (TakesData ToArray) (arraycounterAt (addressAfter (geometryOf (c .part)) (c .arraycounter) bytes) c)
 

@@ -1,5 +1,5 @@
--- How the examples are computed. Before each event a step looks through every mark of every chip, which is long to compute. But a bus that
--- enters keeps entering, so that the event alone gives the same; on a bench with a fault in what it makes of an event, too.
+-- How the examples are computed. Before each event a step tests the whole bus and measures both stores. But a bus that enters keeps entering, so
+-- that the event alone gives the same; on a bench with a fault in what it makes of an event, too.
 use Prim.Native.Nat.{ℕ}
 use mathlib.Core.List.{List, [], _∷_}
 use mathlib.Core.Path.{_≡_, refl, ap, subst}

@@ -1,4 +1,4 @@
--- The control after power up, and the load without its marks.
+-- The control after power up, and the load dropped.
 use borrow.Author.Needs.{needs}
 use Rattle.chip.proofs.Chip.power_up.Statement.{statement}
 use Rattle.chip.proofs.Chip.power_up.Tie as tie

@@ -3,7 +3,7 @@ use Prim.Native.Nat.{ℕ}
 use mathlib.Core.List.{List, []}
 use lib.ListN.{getD, set, replicate}
 use Rattle.base.specs.Fold.{upTo}
-use Rattle.load.specs.Span.{unspanned}
+use Rattle.load.specs.Span.{emptySpan}
 use Rattle.control.specs.declared.Control.{Control}
 use Rattle.control.specs.Control.{fresh}
 use Rattle.chip.specs.declared.Chip.{Chip}
@@ -12,7 +12,7 @@ use Rattle.board.specs.Place.{nowhere}
 
 -- the language's own value for a chip past the last place; nothing reads it
 abbrev pub noChip : Chip
-noChip = record { control = fresh 0 0; load = record { span = unspanned; values = [] } }
+noChip = record { control = fresh 0 0; load = record { span = emptySpan; values = [] } }
 
 abbrev pub chipAt : List Chip → ℕ → Chip
 chipAt chips i = getD chips i noChip

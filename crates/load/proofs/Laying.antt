@@ -12,7 +12,7 @@ use lib.ListN.{length, getD, set, length-set}
 use lib.Seq.{getD-set-same, getD-set-other}
 use borrow.Author.Tests.{eqb-true, eqb-false}
 use Rattle.base.specs.Fold.{upTo}
-use Rattle.base.proofs.Fold.{up-keeps, up-keeps-below, up-same}
+use Rattle.base.proofs.Fold.{up-keeps, up-keeps-below}
 use Rattle.parts.specs.declared.part.Geometry.{Geometry}
 use Rattle.parts.specs.Part.{Sound}
 use Rattle.regions.specs.Page.{pageOf, placeOf}
@@ -101,9 +101,3 @@ laid-at g sound at choice store i d inside = go (eqb (pageOf g i) (pageOf g at))
         (laid-there g start choice store (placeOf g i) d (place-below g sound i) (omega (arith, split)))
     go false is =
         laid-elsewhere g start choice store i d (λ place below there. eqb-false _ _ is (ap (pageOf g) there ∙ page-of-place g sound at place below))
-
--- choices that agree on the page are laid alike
-pub laid-same : (g : Geometry) (start : ℕ) (one other : Choice) (store : List ℕ) → ((place : ℕ) → place < g .page → one place ≡ other place) → laid g start one store ≡ laid g start other store
-unfolding laid
-laid-same g start one other store agree =
-    up-same _ _ (g .page) (λ place now below. ap (λ (byte : Option ℕ). layByte byte (start + place) now) (agree place below)) store

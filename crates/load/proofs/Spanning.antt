@@ -11,7 +11,7 @@ use Rattle.base.proofs.logic.Laws.{and-left, and-right, and-both, or-left, or-r
 use Rattle.base.proofs.number.Laws.{least-first, least-second, least-most}
 use Rattle.regions.specs.Page.{nextIn}
 use Rattle.load.specs.declared.Span.{Span}
-use Rattle.load.specs.Span.{unspanned, isEmpty, dropped, grown, metAt, covers, insidePage, runsOn}
+use Rattle.load.specs.Span.{emptySpan, isEmpty, dropped, grown, metAt, covers, insidePage, runsOn}
 
 -- a number below the next one is below this one or is it
 one-more : (m n : ℕ) → ltb m (n + 1) ≡ (ltb m n || eqb m n)
@@ -41,8 +41,8 @@ module _ (page : ℕ) (span : Span) where
   pub met-below : (place : ℕ) → place < page → metAt page span place < span .first + page
   met-below place below = met-either (λ (m : ℕ). m < span .first + page) place (λ p. omega arith) (λ p. omega arith)
 
-pub unspanned-inside : (page : ℕ) → 0 < page → insidePage page unspanned ≡ true
-unspanned-inside page some = and-both (ltb 0 page) (leb 0 page) (lt-ltb 0 page some) (le-leb 0 page (omega arith))
+pub empty-span-inside : (page : ℕ) → 0 < page → insidePage page emptySpan ≡ true
+empty-span-inside page some = and-both (ltb 0 page) (leb 0 page) (lt-ltb 0 page some) (le-leb 0 page (omega arith))
 
 -- a span that is inside its page
 module _ (page : ℕ) (span : Span) (inside : insidePage page span ≡ true) where
@@ -134,13 +134,6 @@ module _ (page : ℕ) (span : Span) (place : ℕ) where
       go : Dec (span .count ≡ 0) → ltb (next .first) page ≡ true
       go (yes p) = rw (begins p) (lt-ltb _ _ below)
       go (no p) = rw (goes-on (omega arith)) (and-left _ _ inside)
-
-  pub grown-some : 0 < page → isEmpty next ≡ false
-  grown-some some = ne-eqb _ _ (λ none. go (decLt (span .count) page) none)
-    where
-      go : Dec (span .count < page) → next .count ≡ 0 → ⊥
-      go (yes p) none = omega (arith, counts p, none)
-      go (no p) none = omega (arith, counts-no-more (omega arith), none)
 
   module _ (below : place < page) (inside : insidePage page span ≡ true) (runs : runsOn page span place ≡ true) where
     -- its own place and no other is covered more

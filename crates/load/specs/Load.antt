@@ -8,11 +8,11 @@ use Rattle.base.specs.Fold.{upTo}
 use Rattle.parts.specs.declared.part.Geometry.{Geometry}
 use Rattle.regions.specs.Page.{pageOf, placeOf}
 use Rattle.load.specs.declared.Load.{Load}
-use Rattle.load.specs.Span.{unspanned, isEmpty, dropped, grown, covers}
+use Rattle.load.specs.Span.{emptySpan, isEmpty, dropped, grown, covers}
 
 -- no byte has come
 abbrev pub empty : Load
-empty = record { span = unspanned; values = replicate 256 0 }
+empty = record { span = emptySpan; values = replicate 256 0 }
 
 -- a load that spans nothing, whatever its values: they are not read
 abbrev pub emptied : Load → Load

@@ -7,8 +7,8 @@ use Rattle.base.specs.Least.{least}
 use Rattle.load.specs.declared.Span.{Span}
 
 -- as set up: no byte has come
-abbrev pub unspanned : Span
-unspanned = record { first = 0; count = 0 }
+abbrev pub emptySpan : Span
+emptySpan = record { first = 0; count = 0 }
 
 abbrev pub isEmpty : Span → Bool
 isEmpty span = eqb (span .count) 0

@@ -12,7 +12,7 @@ use Rattle.regions.specs.Page.{nextInPage}
 use Rattle.load.specs.declared.Load.{Load}
 use Rattle.load.specs.Span.{insidePage}
 use Rattle.load.specs.Load.{empty, put, holds, storePage}
-use Rattle.load.proofs.Spanning.{unspanned-inside}
+use Rattle.load.proofs.Spanning.{empty-span-inside}
 use Rattle.load.proofs.Laws.{put-inside, put-runs-on}
 use Rattle.control.specs.declared.Control.{Control}
 use Rattle.control.specs.declared.Said.{Said}
@@ -64,10 +64,10 @@ module _ (g : Geometry) (sound : Sound g) where
     stops-the-same free page store = rw (holds-the-same, stores-the-same page store)
 
   empty-accepted : (at : ℕ) → Accepted g at empty
-  empty-accepted at = record { inside = unspanned-inside (g .page) (sound .page-some); next = refl }
+  empty-accepted at = record { inside = empty-span-inside (g .page) (sound .page-some); next = refl }
 
   empty-unmarked : marksOf g empty ≡ marked.empty
-  empty-unmarked = emptied-agrees g sound empty (unspanned-inside (g .page) (sound .page-some))
+  empty-unmarked = emptied-agrees g sound empty (empty-span-inside (g .page) (sound .page-some))
 
   -- from an empty load, any list of bytes from any address
   pub same-from-empty : (at : ℕ) (bytes : List ℕ) (page : ℕ) (store : List ℕ)

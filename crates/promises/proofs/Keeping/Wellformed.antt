@@ -25,7 +25,7 @@ use Rattle.wellformed.specs.Wellformed.{isSetUp, controlFits}
 use Rattle.load.specs.declared.Load.{Load}
 use Rattle.load.specs.Span.{insidePage}
 use Rattle.load.specs.Load.{empty}
-use Rattle.load.proofs.Spanning.{unspanned-inside}
+use Rattle.load.proofs.Spanning.{empty-span-inside}
 use Rattle.control.specs.Control as control
 use Rattle.parts.proofs.part.Laws.{array-some}
 use Rattle.promises.proofs.Keeping.Good.{Good, Inside, inside-of, unloaded-of, wp-spans, dropped, standby, emptied-good}
@@ -91,4 +91,4 @@ kept c array security event formed = formed-of _ (step-good c array security (go
 pub fresh-is-well-formed : (part strap : ℕ) → isSetUp (control.fresh part strap) ≡ true → wellFormed (chip.fresh part strap) ≡ true
 fresh-is-well-formed part strap set-up =
     let fits : Fits (control.fresh part strap) = record { set-up = set-up; array = lt-ltb _ _ (array-some (sound-of part)); security = lt-ltb _ _ (sound-of part .security-some); unused = refl; place = refl; busy = refl } in
-    formed-of (chip.fresh part strap) (emptied-good _ empty fits (unspanned-inside _ (sound-of part .page-some)))
+    formed-of (chip.fresh part strap) (emptied-good _ empty fits (empty-span-inside _ (sound-of part .page-some)))

@@ -19,6 +19,7 @@ use Rattle.refusal.specs.Checks.{firstOf}
 use Rattle.refusal.specs.declared.Refusal.the-variants.{NotWellFormed, WrongLength}
 use Rattle.bus.specs.declared.Bus.{Bus}
 use Rattle.bus.specs.Step.{entryChecks, eventChecks, stepBy, step}
+use Rattle.bus.proofs.Entry.{step-by-checks}
 use Rattle.transcript.specs.Frame.{eventAt}
 use Rattle.print.specs.Print.{digitText, printed, closing}
 use Rattle.conversation.specs.declared.Heard.{Heard}
@@ -60,10 +61,9 @@ module _ (bus : Bus) (array security : List ℕ) (event : ℕ) where
   other-status false false kind is = let six : _≡_ {A = ℕ} 54 57 = rw kind at is in omega arith
 
   pub no-answer-is-nine : answer ≡ closing 9 → ⊥
-  unfolding step
   no-answer-is-nine same =
       let checks = entryChecks bus array security in
-      other-status (getD checks 0 (false, NotWellFormed) .0) (getD checks 1 (false, WrongLength) .0) (kind-ff same) (ap (λ (xs : List ℕ). getD xs 5 0) same)
+      other-status (getD checks 0 (false, NotWellFormed) .0) (getD checks 1 (false, WrongLength) .0) (kind-ff same) (ap (λ (xs : List ℕ). getD xs 5 0) (rw (step-by-checks bus array security event) at same))
 
 module _ (text : List ℕ) (bus : Bus) (array security : List ℕ) where
   abbrev after : ℕ → Spoken

@@ -1,9 +1,10 @@
--- What a state and stores that pass the entry checks are: well formed, so of one to four chips, and of the right lengths.
+-- What a state and stores that pass the entry checks are: well formed, so of one to four chips, and of the right lengths. And a step
+-- by all its checks.
 use Prim.Native.Nat.{ℕ, _+_, _<_, _≤_}
 use native.Mathlib.Omega.{arith}
 use mathlib.Core.Bool.{true, false, not, false≢true}
-use mathlib.Core.List.{List}
-use mathlib.Core.Path.{_≡_, _∙_, refl, ap}
+use mathlib.Core.List.{List, _++_}
+use mathlib.Core.Path.{_≡_, _∙_, refl, sym, ap}
 use lib.Dec.{eqb}
 use lib.ListN.{length}
 use borrow.Author.Tests.{eqb-true, leb-false, not-false}
@@ -12,7 +13,8 @@ use Rattle.refusal.specs.declared.Verdict.{Verdict}
 use Rattle.refusal.specs.declared.Verdict.the-variants.{Passed, Refused}
 use Rattle.refusal.specs.Refusal.{statusOf}
 use Rattle.refusal.specs.Checks.{firstOf, isPassed}
-use Rattle.refusal.proofs.Checks.{passed-exactly-when}
+use Rattle.refusal.proofs.Checks.{Checks, passed-exactly-when, refused-first, passed-first}
+use Rattle.board.specs.Stores.{WithStores}
 use Rattle.board.specs.Place.{placed}
 use Rattle.board.specs.Board.{wrongCount, boardChecks, boardVerdict}
 use Rattle.board.specs.Shares.{figuresAt, arrayStart, securityStart}
@@ -20,7 +22,8 @@ use Rattle.board.proofs.Laws.{right-count, placed-all, ends-before}
 use Rattle.lineup.specs.Chips.{placesOf}
 use Rattle.lineup.specs.Wellformed.{wellFormed}
 use Rattle.bus.specs.declared.Bus.{Bus}
-use Rattle.bus.specs.Step.{entryChecks, chipChecks}
+use Rattle.bus.specs.declared.Stepped.{Stepped}
+use Rattle.bus.specs.Step.{entryChecks, chipChecks, eventChecks, stepChecks, stepBy, event, stepGiven, step}
 
 pub passed : (verdict : Verdict) → isPassed verdict ≡ true → verdict ≡ Passed
 passed Passed is = refl
@@ -79,3 +82,18 @@ named bus array security chip passes =
             enters .array-fits ∙ ap (arrayStart (placesOf (bus .chips))) (enters .all-placed),
           );
     }
+
+-- a step is made by the first of all its checks
+pub step-by-checks : (bus : Bus) (array security : List ℕ) (word : ℕ) → step bus array security word ≡ stepBy (firstOf (stepChecks bus array security word)) bus array security word
+unfolding step event
+step-by-checks bus array security word = go (firstOf entry) refl
+  where
+    entry : Checks
+    entry = entryChecks bus array security
+
+    by : Verdict → WithStores Stepped
+    by verdict = stepBy verdict bus array security word
+
+    go : (verdict : Verdict) → firstOf entry ≡ verdict → stepGiven verdict bus array security word ≡ by (firstOf (entry ++ eventChecks bus word))
+    go Passed is = ap by (sym (passed-first entry (eventChecks bus word) is))
+    go (Refused refusal) is = ap by (sym (refused-first entry (eventChecks bus word) refusal is))

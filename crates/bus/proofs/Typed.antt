@@ -1,15 +1,18 @@
 -- A value of the type `Bus`, by the relation that the checker itself has between values and what they denote: its count fits, it has four
--- places, and each holds a value of the type `Chip`.
+-- places, each holds a value of the type `Chip`, and it has 256 values, each a byte.
 use Prim.Native.Nat.{ℕ, _<_, _^_}
 use native.Mathlib.Omega.{arith}
 use mathlib.Core.List.{List}
 use mathlib.Core.Path.{_≡_, _∙_, refl, sym}
 use lib.ListN.{length, length-map}
-use mir.Val.{Val}
+use mir.Syntax.{w8}
+use mir.Val.{Val, vint}
+use borrow.Author.Needs.{length-unmapped}
+use denote.Builtin.{u8}
 use denote.Laws.{Is}
 use denote.Struct.Declared.{shape}
 use denote.Struct.Struct.{Struct}
-use Rattle.base.specs.Every.{Every}
+use Rattle.base.specs.Every.{Every, FitsByte, AllBytes}
 use Rattle.base.proofs.Every.{every-below, each-every, every-each}
 use Rattle.chip.specs.declared.Chip.{Chip}
 use Rattle.chip.proofs.Chip as chip-rows
@@ -32,11 +35,26 @@ has-four {bus} typed = sym (length-map (bus .chips) _) ∙ typed .is .1 .1 .1 .0
 pub every-typed : {bus : Bus} → OfItsType bus → Every ChipTyped (bus .chips)
 every-typed {bus} typed = each-every _ _ ChipTyped (λ c u is. record { value = u; is = is }) (bus .chips) _ (typed .is .1 .1 .1 .0 .1 .1)
 
+-- 256 values, each a byte
+pub record ValuesTyped (values : List ℕ) : Type 0 where
+  pub long : length values ≡ 256
+  pub bytes : AllBytes values
+
+pub values-typed : {bus : Bus} → OfItsType bus → ValuesTyped (bus .values)
+values-typed {bus} typed =
+    let is = typed .is .1 .1 .1 .1 .0 in
+    record { long = length-unmapped _ (bus .values) 256 (is .1 .0 .1); bytes = each-every _ _ FitsByte (λ n v byte. byte .1) (bus .values) _ (is .1 .1) }
+
 -- and nothing else is asked of it
-pub bus-typed : (count : ℕ) (chips : List Chip) → count < 2 ^ 64 → length chips ≡ 4 → Every ChipTyped chips → OfItsType (record { count = count; chips = chips })
-bus-typed count chips fits four typed =
+pub bus-typed : (count : ℕ) (chips : List Chip) (values : List ℕ) → count < 2 ^ 64 → length chips ≡ 4 → Every ChipTyped chips → ValuesTyped values
+    → OfItsType (record { count = count; chips = chips; values = values })
+bus-typed count chips values fits four typed held =
     let made = every-each (chip-rows.the-type .to) (Struct (shape chip-rows.the-type) .own) ChipTyped (λ c t. t .value) (λ c t. t .is) chips typed in
-    record { values = _; is = ((_, (_, tt)), (refl, ((refl, fits), ((made .0, ((refl, length-map chips _ ∙ four), made .1)), tt)))) }
+    let kept = every-each (λ (n : ℕ). n) (u8 .own) FitsByte (λ n fits. vint w8 n) (λ n fits. (refl, fits)) values (held .bytes) in
+    record {
+      values = _;
+      is = ((_, (_, (_, tt))), (refl, ((refl, fits), ((made .0, ((refl, length-map chips _ ∙ four), made .1)), ((kept .0, ((refl, length-map values _ ∙ held .long), kept .1)), tt)))));
+    }
 
 -- one of its chips
 pub chip-typed : {bus : Bus} → OfItsType bus → (i : ℕ) → i < 4 → ChipTyped (chipAt (bus .chips) i)

@@ -19,6 +19,8 @@ use Rattle.bus.proofs.Bus.chip_verdict.Kinds as chip-verdict-kinds
 use Rattle.bus.proofs.Bus.chip_verdict.Reads as chip-verdict-reads
 use Rattle.bus.proofs.Bus.step.Kinds as step-kinds
 use Rattle.bus.proofs.Bus.step.Reads as step-reads
+use Rattle.bus.proofs.Bus.step_given.Kinds as step-given-kinds
+use Rattle.bus.proofs.Bus.step_given.Reads as step-given-reads
 use Rattle.bus.proofs.Bus.run.Kinds as run-kinds
 use Rattle.bus.proofs.Bus.run.Reads as run-reads
 
@@ -39,6 +41,9 @@ chip-verdict-unique κs args x y at-x at-y = same
 
 pub step-unique : UniqueOutcome step-kinds.ps step-kinds.r (Stepped × List ℕ × List ℕ) (λ κs result at. (result, now (at .1 .0), now (at .1 .1 .0))) step-reads.Post
 step-unique κs args x y at-x at-y = same
+
+pub step-given-unique : UniqueOutcome step-given-kinds.ps step-given-kinds.r (Stepped × List ℕ × List ℕ) (λ κs result at. (result, now (at .1 .1 .0), now (at .1 .1 .1 .0))) step-given-reads.Post
+step-given-unique κs args x y at-x at-y = same
 
 pub run-unique : UniqueOutcome run-kinds.ps run-kinds.r (Verdict × Progress) (λ κs result at. outcome result (now (at .1 .0)) (now (at .1 .1 .0)) (now (at .1 .1 .1 .1 .0))) run-reads.Post
 run-unique κs args x y at-x at-y = same

@@ -4,6 +4,7 @@ use mathlib.Core.Bool.{Bool}
 use mathlib.Core.List.{List, [], _∷_, _++_}
 use lib.ListN.{length, replicate, set}
 use Rattle.base.specs.Fold.{upTo}
+use Rattle.load.specs.Load.{noValues}
 use Rattle.chip.specs.declared.Chip.{Chip}
 use Rattle.chip.specs.Chip as chip
 use Rattle.refusal.specs.declared.Refusal.{Refusal}
@@ -28,7 +29,7 @@ emptyChip = chip.fresh 0 0
 
 -- the empty state, which is not well formed
 abbrev pub empty : Bus
-empty = record { count = 0; chips = replicate 4 emptyChip }
+empty = record { count = 0; chips = replicate 4 emptyChip; values = noValues }
 
 -- a fresh chip at each place that the count fills
 abbrev pub freshChips : List Place → ℕ → List Chip
@@ -36,7 +37,7 @@ freshChips places n =
     upTo (λ (i : ℕ) (chips : List Chip). set chips i (chip.fresh (placeAt places i .part) (placeAt places i .strap))) n (replicate 4 emptyChip)
 
 abbrev pub freshBus : ℕ → List Place → Bus
-freshBus count places = record { count = count; chips = freshChips places (placed count) }
+freshBus count places = record { count = count; chips = freshChips places (placed count); values = noValues }
 
 -- a refused set-up returns the empty state beside its refusal
 abbrev pub setUpBy : Verdict → ℕ → List Place → SetUp

@@ -17,7 +17,7 @@ use Rattle.decode.specs.declared.Addressed.{Addressed}
 use Rattle.decode.specs.Decode.{decodeChecks, addressedOf, eventOf}
 use Rattle.lineup.specs.Chips.{placesOf}
 use Rattle.lineup.specs.Wellformed.{wellFormed}
-use Rattle.line.specs.Line.{lineChecks, OnLine, chipsOf, saidOf, play, lineReply}
+use Rattle.line.specs.Line.{lineChecks, OnLine, chipsOf, saidOf, playWith, lineReply}
 use Rattle.bus.specs.declared.Bus.{Bus}
 use Rattle.bus.specs.declared.Stepped.{Stepped}
 
@@ -43,13 +43,17 @@ stepChecks bus array security word = entryChecks bus array security ++ eventChec
 abbrev pub refused : Refusal → Bus → List ℕ → List ℕ → WithStores Stepped
 refused refusal bus array security = (record { bus = bus; answer = answer.Refused refusal }, array, security)
 
--- what the line made of an event
-abbrev pub done : Event → ℕ → OnLine → WithStores Stepped
-done event count line =
-    (record { bus = record { count = count; chips = chipsOf line }; answer = answer.Done (lineReply event (saidOf line)) }, arrayOf line, securityOf line)
+-- what the line made of an event, and the values that it has then
+abbrev pub done : Event → ℕ → OnLine × List ℕ → WithStores Stepped
+done event count (line, values) = (
+  record { bus = record { count = count; chips = chipsOf line; values = values }; answer = answer.Done (lineReply event (saidOf line)) },
+  arrayOf line,
+  securityOf line,
+)
 
 unfoldable pub played : Addressed → Bus → List ℕ → List ℕ → WithStores Stepped
-played addressed bus array security = done (eventOf addressed) (bus .count) (play addressed (bus .count) (bus .chips) array security)
+played addressed bus array security =
+    done (eventOf addressed) (bus .count) (playWith addressed (bus .count) (bus .chips) (bus .values) array security)
 
 abbrev pub stepBy : Verdict → Bus → List ℕ → List ℕ → ℕ → WithStores Stepped
 stepBy Passed bus array security word = played (addressedOf word) bus array security
@@ -59,5 +63,10 @@ stepBy (Refused refusal) bus array security word = refused refusal bus array sec
 unfoldable pub event : Bus → List ℕ → List ℕ → ℕ → WithStores Stepped
 event bus array security word = stepBy (firstOf (eventChecks bus word)) bus array security word
 
+-- one event, given what the checks at entry say
+abbrev pub stepGiven : Verdict → Bus → List ℕ → List ℕ → ℕ → WithStores Stepped
+stepGiven Passed bus array security word = event bus array security word
+stepGiven (Refused refusal) bus array security word = refused refusal bus array security
+
 unfoldable pub step : Bus → List ℕ → List ℕ → ℕ → WithStores Stepped
-step bus array security word = stepBy (firstOf (stepChecks bus array security word)) bus array security word
+step bus array security word = stepGiven (firstOf (entryChecks bus array security)) bus array security word

@@ -12,6 +12,7 @@ use decode::event_of;
 use line::line_reply;
 use line::line_verdict;
 use lineup::places_of;
+use load::PAGE_MOST;
 use refusal::Answer;
 use refusal::Refusal;
 use refusal::Verdict;
@@ -23,12 +24,13 @@ ghost use Rattle.refusal.specs.Checks.{firstOf};
 ghost use Rattle.board.specs.Place.{placed};
 ghost use Rattle.lineup.specs.Wellformed.{wellFormed};
 ghost use Rattle.bus.specs.Setup.{empty, setUpChecks, freshChips, setUp};
-ghost use Rattle.bus.specs.Step.{entryChecks, chipChecks, eventChecks, played, event, step};
+ghost use Rattle.bus.specs.Step.{entryChecks, chipChecks, eventChecks, played, event, stepGiven, step};
 ghost use Rattle.bus.specs.Run.{runUpTo, outcome, run};
 
 pub struct Bus {
     pub count: usize,
     pub chips: [Chip; PLACES],
+    pub values: [u8; PAGE_MOST],
 }
 
 pub struct SetUp {
@@ -54,6 +56,7 @@ impl Bus {
         Bus {
             count: 0,
             chips: [Chip::fresh(0, 0); PLACES],
+            values: [0; PAGE_MOST],
         }
     }
 
@@ -71,6 +74,7 @@ impl Bus {
                 bus: Bus {
                     count,
                     chips: fresh_chips(count, places),
+                    values: [0; PAGE_MOST],
                 },
                 verdict: Verdict::Passed,
             },
@@ -119,8 +123,21 @@ impl Bus {
     pub fn step(self, array: &mut [u8], security: &mut [u8], word: u16) -> Stepped
         ensures { λ r. ⌜ (r, now (array .exit), now (security .exit)) ≡ step self (now (array .entry)) (now (security .entry)) word ⌝ }
     {
-        let verdict = self.entry_verdict(array, security);
-        match verdict {
+        let entry = self.entry_verdict(array, security);
+        self.step_given(entry, array, security, word)
+    }
+
+    // The same for a caller that has the verdict of checks 10 and 5 already.
+    pub fn step_given(
+        self,
+        entry: Verdict,
+        array: &mut [u8],
+        security: &mut [u8],
+        word: u16,
+    ) -> Stepped
+        ensures { λ r. ⌜ (r, now (array .exit), now (security .exit)) ≡ stepGiven entry self (now (array .entry)) (now (security .entry)) word ⌝ }
+    {
+        match entry {
             Verdict::Refused(refusal) => Stepped {
                 bus: self,
                 answer: Answer::Refused(refusal),
@@ -209,11 +226,16 @@ fn played(addressed: Addressed, bus: Bus, array: &mut [u8], security: &mut [u8])
 {
     let count = bus.count;
     let chips = bus.chips;
-    let world = line::play(addressed, count, chips, array, security);
+    let mut values = bus.values;
+    let world = line::play(addressed, count, chips, &mut values, array, security);
     let next = world.chips;
     let said = world.said;
     Stepped {
-        bus: Bus { count, chips: next },
+        bus: Bus {
+            count,
+            chips: next,
+            values,
+        },
         answer: Answer::Done(line_reply(event_of(addressed), said)),
     }
 }

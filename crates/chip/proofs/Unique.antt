@@ -22,8 +22,8 @@ use Rattle.chip.proofs.Chip.cycle_over.Kinds as cycle-over-kinds
 use Rattle.chip.proofs.Chip.cycle_over.Reads as cycle-over-reads
 use Rattle.chip.proofs.Chip.power_up.Kinds as power-up-kinds
 use Rattle.chip.proofs.Chip.power_up.Reads as power-up-reads
-use Rattle.chip.proofs.Chip.step.Kinds as step-kinds
-use Rattle.chip.proofs.Chip.step.Reads as step-reads
+use Rattle.chip.proofs.Chip.moved.Kinds as moved-kinds
+use Rattle.chip.proofs.Chip.moved.Reads as moved-reads
 
 pub fresh-unique : Unique fresh-kinds.ps fresh-kinds.r fresh-reads.Post
 fresh-unique κs args x y at-x at-y = same
@@ -31,13 +31,13 @@ fresh-unique κs args x y at-x at-y = same
 pub start-unique : Unique start-kinds.ps start-kinds.r start-reads.Post
 start-unique κs args x y at-x at-y = same
 
-pub take-unique : Unique take-kinds.ps take-kinds.r take-reads.Post
+pub take-unique : UniqueOutcome take-kinds.ps take-kinds.r (Stepped × List ℕ) (λ κs result at. (result, now (at .1 .1 .0))) take-reads.Post
 take-unique κs args x y at-x at-y = same
 
 pub read-unique : Unique read-kinds.ps read-kinds.r read-reads.Post
 read-unique κs args x y at-x at-y = same
 
-pub stop-unique : UniqueOutcome stop-kinds.ps stop-kinds.r (Chip × List ℕ × List ℕ) (λ κs result at. (result, now (at .1 .0), now (at .1 .1 .0))) stop-reads.Post
+pub stop-unique : UniqueOutcome stop-kinds.ps stop-kinds.r (Chip × List ℕ × List ℕ) (λ κs result at. (result, now (at .1 .1 .0), now (at .1 .1 .1 .0))) stop-reads.Post
 stop-unique κs args x y at-x at-y = same
 
 pub wp-unique : Unique wp-kinds.ps wp-kinds.r wp-reads.Post
@@ -49,5 +49,5 @@ cycle-over-unique κs args x y at-x at-y = same
 pub power-up-unique : Unique power-up-kinds.ps power-up-kinds.r power-up-reads.Post
 power-up-unique κs args x y at-x at-y = same
 
-pub step-unique : UniqueOutcome step-kinds.ps step-kinds.r (Stepped × List ℕ × List ℕ) (λ κs result at. (result, now (at .1 .0), now (at .1 .1 .0))) step-reads.Post
-step-unique κs args x y at-x at-y = same
+pub moved-unique : Unique moved-kinds.ps moved-kinds.r moved-reads.Post
+moved-unique κs args x y at-x at-y = same

@@ -1,8 +1,9 @@
 -- One chip: what each event does to it and to its shares of the two stores, and what it says (paper, "How one chip behaves").
 use Prim.Native.Nat.{ℕ}
-use mathlib.Core.Bool.{Bool, cond}
+use mathlib.Core.Bool.{Bool, true, false, cond}
 use mathlib.Core.List.{List}
-use Rattle.load.specs.Load as load
+use Rattle.load.specs.Span.{emptySpan, dropped}
+use Rattle.load.specs.Load.{loadOf}
 use Rattle.control.specs.declared.Said.the-variants.{Nothing}
 use Rattle.control.specs.declared.phase.Phase.the-variants.{Standby, AwaitsAddress}
 use Rattle.control.specs.Phase.{isBusy}
@@ -18,7 +19,7 @@ use Rattle.chip.specs.declared.event.Event.the-variants.{Start, Stop, Se
 
 -- a chip as set up (paper, "The two memories")
 abbrev pub fresh : ℕ → ℕ → Chip
-fresh part strap = record { control = control.fresh part strap; load = load.empty }
+fresh part strap = record { control = control.fresh part strap; span = emptySpan }
 
 -- an event that has no reply
 abbrev pub quiet : Chip → Stepped
@@ -28,52 +29,86 @@ quiet c = record { chip = c; said = Nothing }
 abbrev pub start : Chip → Chip
 start c =
     cond (isBusy (c .control .phase)) c
-    (record { control = control.inPhase AwaitsAddress (c .control); load = load.emptied (c .load) })
+    (record { control = control.inPhase AwaitsAddress (c .control); span = dropped (c .span) })
 
 -- a byte sent by the host
 abbrev pub take : Chip → ℕ → Stepped
 take c byte =
     record {
-      chip = record { control = taking.take (c .control) byte .control; load = taking.loaded (c .load) (c .control) byte };
+      chip = record { control = taking.take (c .control) byte .control; span = taking.spanAfter (c .span) (c .control) };
       said = taking.take (c .control) byte .said;
     }
+
+-- and the values of the line then, since the byte may be loaded
+abbrev pub valuesTaken : Chip → ℕ → List ℕ → List ℕ
+valuesTaken c byte values = taking.valuesAfter (c .span) (c .control) byte values
+
+abbrev pub taken : Chip → ℕ → List ℕ → Stepped × List ℕ
+taken c byte values = (take c byte, valuesTaken c byte values)
 
 -- a byte read by the host
 abbrev pub read : Chip → List ℕ → List ℕ → Bool → Stepped
 read c array security nack =
     record {
-      chip = record { control = sending.read (c .control) array security nack .control; load = c .load };
+      chip = record { control = sending.read (c .control) array security nack .control; span = c .span };
       said = sending.read (c .control) array security nack .said;
     }
 
 -- Stop: what is loaded is stored or not, and the load is gone; a busy chip takes no notice
-abbrev pub stop : Chip → List ℕ → List ℕ → Chip × List ℕ × List ℕ
-stop c array security =
-    cond (isBusy (c .control .phase)) (c, array, security) (
-      record { control = cycle.stop (c .control) (c .load) array security .0; load = load.emptied (c .load) },
-      cycle.stop (c .control) (c .load) array security .1,
-      cycle.stop (c .control) (c .load) array security .2,
-    )
+abbrev pub stop : Chip → List ℕ → List ℕ → List ℕ → Chip × List ℕ × List ℕ
+stop c values array security =
+    let stopped = cycle.stop (c .control) (loadOf (c .span) values) array security in
+    cond (isBusy (c .control .phase)) (c, array, security) (record { control = stopped .0; span = dropped (c .span) }, stopped .1, stopped .2)
 
 -- the WP pin, low or high
 abbrev pub wp : Bool → Chip → Chip
-wp level c = record { control = control.wpAt level (c .control); load = c .load }
+wp level c = record { control = control.wpAt level (c .control); span = c .span }
 
 -- the write cycle is over: standby until the next Start; no effect if not busy, which the bus refuses (request E2, 12)
 abbrev pub cycleOver : Chip → Chip
 cycleOver c =
-    cond (isBusy (c .control .phase)) (record { control = control.inPhase Standby (c .control); load = c .load }) c
+    cond (isBusy (c .control .phase)) (record { control = control.inPhase Standby (c .control); span = c .span }) c
 
 -- Power up: phase, load, choice and busy mark are cleared, counters 0; stores, registers and WP level stay
 abbrev pub powerUp : Chip → Chip
-powerUp c = record { control = poweredUp (c .control); load = load.emptied (c .load) }
+powerUp c = record { control = poweredUp (c .control); span = dropped (c .span) }
 
--- one event at one chip, on its own shares: demand 2 for one chip
-unfoldable pub step : Chip → List ℕ → List ℕ → Event → Stepped × List ℕ × List ℕ
-step c array security Start = (quiet (start c), array, security)
-step c array security Stop = (quiet (stop c array security .0), stop c array security .1, stop c array security .2)
-step c array security (Sent byte) = (take c byte, array, security)
-step c array security (Read nack) = (read c array security nack, array, security)
-step c array security (Wp level) = (quiet (wp level c), array, security)
-step c array security CycleOver = (quiet (cycleOver c), array, security)
-step c array security PowerUp = (quiet (powerUp c), array, security)
+-- what an event does that meets neither the stores nor the values of a load; and which these are
+abbrev pub moved : Chip → Event → Chip
+moved c Start = start c
+moved c Stop = c
+moved c (Sent byte) = c
+moved c (Read nack) = c
+moved c (Wp level) = wp level c
+moved c CycleOver = cycleOver c
+moved c PowerUp = powerUp c
+
+abbrev pub meetsNothing : Event → Bool
+meetsNothing Start = true
+meetsNothing Stop = false
+meetsNothing (Sent byte) = false
+meetsNothing (Read nack) = false
+meetsNothing (Wp level) = true
+meetsNothing CycleOver = true
+meetsNothing PowerUp = true
+
+-- one event at one chip, with the values that the line keeps and on its own shares: demand 2 for one chip
+unfoldable pub step : Chip → List ℕ → List ℕ → List ℕ → Event → Stepped × List ℕ × List ℕ
+step c values array security Start = (quiet (start c), array, security)
+step c values array security Stop =
+    (quiet (stop c values array security .0), stop c values array security .1, stop c values array security .2)
+step c values array security (Sent byte) = (take c byte, array, security)
+step c values array security (Read nack) = (read c array security nack, array, security)
+step c values array security (Wp level) = (quiet (wp level c), array, security)
+step c values array security CycleOver = (quiet (cycleOver c), array, security)
+step c values array security PowerUp = (quiet (powerUp c), array, security)
+
+-- and the values then: a byte sent may be loaded
+unfoldable pub valuesAfter : Chip → Event → List ℕ → List ℕ
+valuesAfter c Start values = values
+valuesAfter c Stop values = values
+valuesAfter c (Sent byte) values = valuesTaken c byte values
+valuesAfter c (Read nack) values = values
+valuesAfter c (Wp level) values = values
+valuesAfter c CycleOver values = values
+valuesAfter c PowerUp values = values

@@ -1,4 +1,5 @@
-// One chip: what each event does to it and to its shares of the two stores, and what it says (paper, "How one chip behaves").
+// One chip: what each event does to it and to its shares of the two stores, and what it says (paper, "How one chip behaves"). The values of
+// its load are lent, as the shares are.
 pub mod event;
 
 use crate::event::Event;
@@ -6,13 +7,14 @@ use control::Control;
 use control::Said;
 use control::phase::Phase;
 use control::phase::is_busy;
-use load::Load;
+use load::PAGE_MOST;
+use load::Span;
 ghost use mathlib.Core.Path.{_≡_};
-ghost use Rattle.chip.specs.Chip.{fresh, quiet, start, take, read, stop, wp, cycleOver, powerUp, step};
+ghost use Rattle.chip.specs.Chip.{fresh, start, take, read, stop, wp, cycleOver, powerUp, taken, moved};
 
 pub struct Chip {
     pub control: Control,
-    pub load: Load,
+    pub span: Span,
 }
 
 pub struct Stepped {
@@ -26,7 +28,7 @@ impl Chip {
     {
         Chip {
             control: Control::fresh(part, strap),
-            load: Load::empty(),
+            span: Span::empty(),
         }
     }
 
@@ -35,30 +37,30 @@ impl Chip {
         ensures { λ r. ⌜ r ≡ start self ⌝ }
     {
         let control = self.control;
-        let load = self.load;
+        let span = self.span;
         let phase = control.phase;
         if is_busy(phase) {
             return self;
         }
         Chip {
             control: control.in_phase(Phase::AwaitsAddress),
-            load: load.emptied(),
+            span: span.dropped(),
         }
     }
 
     // A byte sent by the host.
-    pub fn take(self, byte: u8) -> Stepped
-        ensures { λ r. ⌜ r ≡ take self byte ⌝ }
+    pub fn take(self, byte: u8, values: &mut [u8; PAGE_MOST]) -> Stepped
+        ensures { λ r. ⌜ (r, now (values .exit)) ≡ taken self byte (now (values .entry)) ⌝ }
     {
         let control = self.control;
-        let load = self.load;
+        let span = self.span;
         let answered = taking::take(control, byte);
         let next = answered.control;
         let said = answered.said;
         Stepped {
             chip: Chip {
                 control: next,
-                load: taking::loaded(load, control, byte),
+                span: taking::loaded(span, control, byte, values),
             },
             said,
         }
@@ -69,33 +71,33 @@ impl Chip {
         ensures { λ r. ⌜ r ≡ read self (now (array .entry)) (now (security .entry)) nack ⌝ }
     {
         let control = self.control;
-        let load = self.load;
+        let span = self.span;
         let answered = sending::read(control, array, security, nack);
         let next = answered.control;
         let said = answered.said;
         Stepped {
             chip: Chip {
                 control: next,
-                load,
+                span,
             },
             said,
         }
     }
 
     // A busy chip takes no notice of a Stop.
-    pub fn stop(self, array: &mut [u8], security: &mut [u8]) -> Chip
-        ensures { λ r. ⌜ (r, now (array .exit), now (security .exit)) ≡ stop self (now (array .entry)) (now (security .entry)) ⌝ }
+    pub fn stop(self, values: &[u8; PAGE_MOST], array: &mut [u8], security: &mut [u8]) -> Chip
+        ensures { λ r. ⌜ (r, now (array .exit), now (security .exit)) ≡ stop self (now (values .entry)) (now (array .entry)) (now (security .entry)) ⌝ }
     {
         let control = self.control;
-        let load = self.load;
+        let span = self.span;
         let phase = control.phase;
         if is_busy(phase) {
             return self;
         }
-        let after = cycle::stop(control, load, array, security);
+        let after = cycle::stop(control, span, values, array, security);
         Chip {
             control: after,
-            load: load.emptied(),
+            span: span.dropped(),
         }
     }
 
@@ -104,10 +106,10 @@ impl Chip {
         ensures { λ r. ⌜ r ≡ wp level self ⌝ }
     {
         let control = self.control;
-        let load = self.load;
+        let span = self.span;
         Chip {
             control: control.wp_at(level),
-            load,
+            span,
         }
     }
 
@@ -116,12 +118,12 @@ impl Chip {
         ensures { λ r. ⌜ r ≡ cycleOver self ⌝ }
     {
         let control = self.control;
-        let load = self.load;
+        let span = self.span;
         let phase = control.phase;
         if is_busy(phase) {
             return Chip {
                 control: control.in_phase(Phase::Standby),
-                load,
+                span,
             };
         }
         self
@@ -132,35 +134,25 @@ impl Chip {
         ensures { λ r. ⌜ r ≡ powerUp self ⌝ }
     {
         let control = self.control;
-        let load = self.load;
+        let span = self.span;
         Chip {
             control: control.powered_up(),
-            load: load.emptied(),
+            span: span.dropped(),
         }
     }
 
-    // One event. Events 05 to 07 are for the chip that they name, so they reach no other.
-    pub fn step(self, array: &mut [u8], security: &mut [u8], event: Event) -> Stepped
-        ensures { λ r. ⌜ (r, now (array .exit), now (security .exit)) ≡ step self (now (array .entry)) (now (security .entry)) event ⌝ }
+    // An event that meets neither the stores nor the values of a load; any other leaves the chip here.
+    pub fn moved(self, event: Event) -> Chip
+        ensures { λ r. ⌜ r ≡ moved self event ⌝ }
     {
         match event {
-            Event::Start => quiet(self.start()),
-            Event::Stop => quiet(self.stop(array, security)),
-            Event::Sent(byte) => self.take(byte),
-            Event::Read(nack) => self.read(array, security, nack),
-            Event::Wp(level) => quiet(self.wp(level)),
-            Event::CycleOver => quiet(self.cycle_over()),
-            Event::PowerUp => quiet(self.power_up()),
+            Event::Start => self.start(),
+            Event::Stop => self,
+            Event::Sent(_) => self,
+            Event::Read(_) => self,
+            Event::Wp(level) => self.wp(level),
+            Event::CycleOver => self.cycle_over(),
+            Event::PowerUp => self.power_up(),
         }
-    }
-}
-
-// An event that has no reply.
-fn quiet(chip: Chip) -> Stepped
-    ensures { λ r. ⌜ r ≡ quiet chip ⌝ }
-{
-    Stepped {
-        chip,
-        said: Said::Nothing,
     }
 }

@@ -5,19 +5,26 @@ use native.Mathlib.Decide.{decLe}
 use native.Mathlib.Omega.{arith}
 use mathlib.Core.Bool.{Bool, true, false, cond, false≢true}
 use mathlib.Core.List.{List, _++_, append-assoc}
-use mathlib.Core.Path.{_≡_, _∙_, refl, sym, ap}
+use mathlib.Core.Path.{_≡_, _∙_, refl, sym, ap, subst}
 use lib.ListN.{length, drop, length-append, length-drop}
 use lib.Seq.{take-at, drop-at, drop-drop}
 use borrow.Author.Tests.{le-leb, leb-true, leb-false}
 use Rattle.base.specs.Fold.{upTo}
 use Rattle.base.specs.Store.{patched}
 use Rattle.refusal.specs.declared.Answer.{Answer}
+use Rattle.refusal.specs.declared.Verdict.{Verdict}
+use Rattle.refusal.specs.declared.Verdict.the-variants.{Passed, Refused}
 use Rattle.refusal.specs.Refusal.{answerWord}
+use Rattle.refusal.specs.Checks.{firstOf}
+use Rattle.board.specs.Stores.{WithStores, arrayOf, securityOf}
 use Rattle.bus.specs.declared.Bus.{Bus}
-use Rattle.bus.specs.Step.{step}
+use Rattle.bus.specs.declared.Stepped.{Stepped}
+use Rattle.bus.specs.Step.{entryChecks, stepGiven, step}
+use Rattle.bus.proofs.Typed.{OfItsType}
+use Rattle.promises.proofs.Kept.{event-keeps}
 use Rattle.transcript.specs.declared.frame.Frame.{Frame}
 use Rattle.transcript.specs.declared.frame.Frame.the-variants.{Event, Malformed, End}
-use Rattle.transcript.specs.Frame.{frameAt}
+use Rattle.transcript.specs.Frame.{frameAt, meaning}
 use Rattle.print.specs.Print.{printed, closing}
 use Rattle.inplace.specs.InPlace.{handedBack}
 use Rattle.conversation.specs.declared.Heard.{Heard}
@@ -28,6 +35,17 @@ use Rattle.conversation.specs.Pending.{hasRoom, paused, lastPending, toP
 -- how many bytes of room what is pending may still use
 abbrev pub rankOf : List ℕ → Pending → ℕ
 rankOf buffer pending = cond (pending .more) (suc (length buffer - pending .written)) 0
+
+-- ---- the verdict of the entry checks, which is asked for once: a step that is given it is the step
+given-is-step : (entry : Verdict) (bus : Bus) (array security : List ℕ) (word : ℕ) → firstOf (entryChecks bus array security) ≡ entry → stepGiven entry bus array security word ≡ step bus array security word
+unfolding step
+given-is-step entry bus array security word is = ap (λ (v : Verdict). stepGiven v bus array security word) (sym is)
+
+-- and leaves it as it was: one that is refused changes nothing, and an event keeps what they check
+verdict-stays : (entry : Verdict) (bus : Bus) (array security : List ℕ) (word : ℕ) → OfItsType bus → firstOf (entryChecks bus array security) ≡ entry
+    → let next = stepGiven entry bus array security word in (firstOf (entryChecks (next .0 .bus) (arrayOf next) (securityOf next)) ≡ entry) × OfItsType (next .0 .bus)
+verdict-stays Passed bus array security word typed is = let kept = event-keeps bus array security word typed is in (kept .enters, kept .typed)
+verdict-stays (Refused refusal) bus array security word typed is = (is, typed)
 
 -- ---- the answers in the buffer
 module _ (buffer said : List ℕ) where
@@ -71,13 +89,21 @@ module _ (text : List ℕ) (at : ℕ) (buffer : List ℕ) (written : ℕ) where
       go true e Malformed f false g = not-more {known = (lastPending text written, patched written (closing 9) buffer)} (is ∙ rw (e, f, g) refl) refl
       go true e End f part g = not-more {known = (paused at written, buffer)} (is ∙ rw (e, f) refl) refl
 
+  -- the reader is then at the place that is pending
+  follows-on : {pending : Pending} {said : List ℕ} → _≡_ {A = Pending × List ℕ} (pending, said) (pendingAt text at buffer written) → pending .more ≡ true → meaning (frameAt text at) at .place ≡ pending .at
+  follows-on is more = ap (λ (frame : Frame). meaning frame at .place) (plays is more .frame)
+
 module _ (text : List ℕ) (bus₀ : Bus) (array₀ security₀ buffer₀ : List ℕ) where
   abbrev after : ℕ → Talk
   after k = hear text k (opened bus₀ array₀ security₀)
 
-  pub record Stands (pending : Pending) (bus : Bus) (array security said : List ℕ) : Type 0 where
+  -- the reader is at `place`
+  pub record Stands (entry : Verdict) (pending : Pending) (place : ℕ) (bus : Bus) (array security said : List ℕ) : Type 0 where
+    pub enters : firstOf (entryChecks bus array security) ≡ entry
+    pub typed : OfItsType bus
     pub frames : ℕ
     pub pending-is : _≡_ {A = Pending × List ℕ} (pending, said) (pendingAt text (after frames .at) (laidOn buffer₀ (after frames .said)) (length (after frames .said)))
+    pub follows : pending .more ≡ true → place ≡ pending .at
     pub bus-is : bus ≡ after frames .bus
     pub array-is : array ≡ after frames .array
     pub security-is : security ≡ after frames .security
@@ -85,9 +111,10 @@ module _ (text : List ℕ) (bus₀ : Bus) (array₀ security₀ buffer₀ : List
     pub room : frames * 9 ≤ length buffer₀
     pub going : after frames .over ≡ false
 
-  pub begins : {pending : Pending} {said : List ℕ} → _≡_ {A = Pending × List ℕ} (pending, said) (pendingAt text 0 buffer₀ 0) → Stands pending bus₀ array₀ security₀ said
+  pub begins : {entry : Verdict} {pending : Pending} {place : ℕ} {said : List ℕ} → entry ≡ firstOf (entryChecks bus₀ array₀ security₀) → OfItsType bus₀
+      → place ≡ meaning (frameAt text 0) 0 .place → _≡_ {A = Pending × List ℕ} (pending, said) (pendingAt text 0 buffer₀ 0) → Stands entry pending place bus₀ array₀ security₀ said
   unfolding upTo
-  begins first = record { frames = 0; pending-is = first; bus-is = refl; array-is = refl; security-is = refl; said-is = refl; room = omega arith; going = refl }
+  begins asked typed moved first = record { enters = sym asked; typed = typed; frames = 0; pending-is = first; follows = λ more. moved ∙ follows-on text 0 buffer₀ 0 first more; bus-is = refl; array-is = refl; security-is = refl; said-is = refl; room = omega arith; going = refl }
 
   -- the length of the buffer is not changed by what is laid on it
   laid-same : (k : ℕ) → length (after k .said) ≡ k * 9 → k * 9 ≤ length buffer₀ → length (laidOn buffer₀ (after k .said)) ≡ length buffer₀
@@ -117,16 +144,18 @@ module _ (text : List ℕ) (bus₀ : Bus) (array₀ security₀ buffer₀ : List
       let long : length (after k .said ++ line) ≡ length (after k .said) + 9 = length-append (after k .said) line in
       noted ∙ rw (p .still, p .same, p .has-room, behind, sym long, next) refl
 
-  pub goes : {pending pending′ : Pending} {bus bus′ : Bus} {array array′ security security′ said said′ : List ℕ} {answer : Answer}
-      → Stands pending bus array security said → pending .more ≡ true
-      → (handedBack bus′ answer, array′, security′) ≡ step bus array security (pending .event)
+  pub goes : {entry : Verdict} {pending pending′ : Pending} {place place′ : ℕ} {bus bus′ : Bus} {array array′ security security′ said said′ : List ℕ} {answer : Answer}
+      → Stands entry pending place bus array security said → pending .more ≡ true
+      → (handedBack bus′ answer, array′, security′) ≡ stepGiven entry bus array security (pending .event)
+      → place′ ≡ meaning (frameAt text place) place .place
       → _≡_ {A = Pending × List ℕ} (pending′, said′) (nextPending text pending answer said)
-      → Stands pending′ bus′ array′ security′ said′ × (rankOf buffer₀ pending′ < rankOf buffer₀ pending)
-  goes {pending} {pending′} {bus} {bus′} {array} {array′} {security} {security′} {said} {said′} {answer} at more played noted =
+      → Stands entry pending′ place′ bus′ array′ security′ said′ × (rankOf buffer₀ pending′ < rankOf buffer₀ pending)
+  goes {entry} {pending} {pending′} {place} {place′} {bus} {bus′} {array} {array′} {security} {security′} {said} {said′} {answer} at more played moved noted =
+      let kept = verdict-stays entry bus array security (pending .event) (at .typed) (at .enters) in
       let k = at .frames in
       let p = plays text (after k .at) (laidOn buffer₀ (after k .said)) (length (after k .said)) (at .pending-is) more in
       let same : (handedBack bus′ answer, array′, security′) ≡ step (after k .bus) (after k .array) (after k .security) (pending .event) =
-      rw (sym (at .bus-is), sym (at .array-is), sym (at .security-is)) played in
+      rw (sym (at .bus-is), sym (at .array-is), sym (at .security-is)) (played ∙ given-is-step entry bus array security (pending .event) (at .enters)) in
       let next : after (suc k) ≡ spoken k pending bus′ answer array′ security′ = frame-more k pending (p .frame) same in
       let pending-is′ = pending-more k pending bus′ answer array′ security′ p noted next in
       let fits : length (after k .said) + 9 ≤ length buffer₀ =
@@ -134,8 +163,12 @@ module _ (text : List ℕ) (bus₀ : Bus) (array₀ security₀ buffer₀ : List
       let long : length (after (suc k) .said) ≡ length (after k .said) + 9 =
       ap (λ (t : Talk). length (t .said)) next ∙ length-append (after k .said) (printed (pending .event) (answerWord answer)) in (
         record {
+          enters = ap (λ (o : WithStores Stepped). firstOf (entryChecks (o .0 .bus) (arrayOf o) (securityOf o))) played ∙ kept .0;
+          typed = subst (λ (o : WithStores Stepped). OfItsType (o .0 .bus)) (sym played) (kept .1);
           frames = suc k;
           pending-is = pending-is′;
+          follows = λ more′. moved ∙ ap (λ (p : ℕ). meaning (frameAt text p) p .place) (at .follows more ∙ sym (ap (λ (t : Talk). t .at) next))
+              ∙ follows-on text (after (suc k) .at) (laidOn buffer₀ (after (suc k) .said)) (length (after (suc k) .said)) pending-is′ more′;
           bus-is = sym (ap (λ (t : Talk). t .bus) next);
           array-is = sym (ap (λ (t : Talk). t .array) next);
           security-is = sym (ap (λ (t : Talk). t .security) next);
@@ -177,11 +210,11 @@ module _ (text : List ℕ) (bus₀ : Bus) (array₀ security₀ buffer₀ : List
   unfolding converse
   close pending talk last tells at written over bus array security said = rw (tells, at, written, over, bus, array, security, said, last) refl
 
-  pub ends : {pending : Pending} {bus : Bus} {array security said : List ℕ} {heard : Heard}
-      → Stands pending bus array security said → pending .more ≡ false → heard ≡ heardOf pending
+  pub ends : {entry : Verdict} {pending : Pending} {place : ℕ} {bus : Bus} {array security said : List ℕ} {heard : Heard}
+      → Stands entry pending place bus array security said → pending .more ≡ false → heard ≡ heardOf pending
       → (heard, bus, array, security, said) ≡ converse text bus₀ array₀ security₀ buffer₀
   unfolding upTo hearFrame pendingAt
-  ends {pending} {bus} {array} {security} {said} {heard} at less tells =
+  ends {entry} {pending} {place} {bus} {array} {security} {said} {heard} at less tells =
       go (hasRoom (laidOn buffer₀ (after (at .frames) .said)) (length (after (at .frames) .said))) refl
       (frameAt text (after (at .frames) .at)) refl (unfinished text (after (at .frames) .at)) refl
     where

@@ -3,11 +3,13 @@ mod pending;
 pub mod tape;
 
 use crate::pending::finish;
-use crate::pending::first_pending;
 use crate::pending::heard_of;
 use crate::pending::next_pending;
+use crate::pending::pending_at;
+use crate::tape::text_on;
 use bus::Bus;
 use inplace::step_in_place;
+use reader::Reader;
 ghost use mathlib.Core.Path.{_≡_};
 ghost use Rattle.conversation.specs.Talk.{converse};
 ghost use Rattle.conversation.specs.Tape.{textOn};
@@ -31,10 +33,16 @@ pub fn converse(
 ) -> Heard
     ensures { λ heard. ⌜ (heard, now (bus .exit), now (array .exit), now (security .exit), now (said .exit)) ≡ converse (textOn (now (tape .entry)) filled) (now (bus .entry)) (now (array .entry)) (now (security .entry)) (now (said .entry)) ⌝ }
 {
-    let mut pending = first_pending(tape, filled, said);
+    // Asked once: a step leaves it as it was.
+    let entry = (*bus).entry_verdict(array, security);
+    // One reader goes through the text, from its first line to its last.
+    let text = text_on(tape, filled);
+    let mut reader = Reader::new(text);
+    let mut pending = pending_at(reader.next(), text, 0, said, 0);
     while pending.more {
-        let answer = step_in_place(bus, array, security, pending.event);
-        pending = next_pending(pending, answer, tape, filled, said);
+        let answer = step_in_place(bus, entry, array, security, pending.event);
+        let frame = reader.next();
+        pending = next_pending(pending, answer, frame, text, said);
     }
     heard_of(pending)
 }

@@ -5,7 +5,6 @@ use base::logic::and;
 use print::PRINTED_BYTES;
 use print::closing;
 use print::printed;
-use reader::read_frame;
 use refusal::Answer;
 use refusal::answer_word;
 use transcript::digit::DIGITS;
@@ -17,6 +16,7 @@ ghost use Prim.Native.Nat.{_+_, _≤_};
 ghost use mathlib.Core.Path.{_≡_};
 ghost use lib.ListN.{length};
 ghost use Rattle.base.specs.Store.{patched};
+ghost use Rattle.transcript.specs.Frame.{frameAt};
 ghost use Rattle.print.specs.Print.{printedBytes};
 ghost use Rattle.conversation.specs.Talk.{unfinished};
 ghost use Rattle.conversation.specs.Tape.{textOn};
@@ -96,13 +96,15 @@ fn pending_without_frame(text: &[u8], at: usize, said: &mut [u8], written: usize
     }
 }
 
-fn pending_at(text: &[u8], at: usize, said: &mut [u8], written: usize) -> Pending
+// What is pending at a place of the text, where the reader found a frame.
+pub fn pending_at(frame: Frame, text: &[u8], at: usize, said: &mut [u8], written: usize) -> Pending
+    requires { ⌜ frame ≡ frameAt (now text) at ⌝ }
     ensures { λ r. ⌜ (r, now (said .exit)) ≡ pendingAt (now (text .entry)) at (now (said .entry)) written ⌝ }
 {
     if !has_room(said, written) {
         return paused(at, written);
     }
-    match read_frame(text, at) {
+    match frame {
         Frame::Event(event, next) => Pending {
             more: true,
             event,
@@ -115,22 +117,16 @@ fn pending_at(text: &[u8], at: usize, said: &mut [u8], written: usize) -> Pendin
     }
 }
 
-pub fn first_pending(tape: &[u8], filled: usize, said: &mut [u8]) -> Pending
-    ensures { λ r. ⌜ (r, now (said .exit)) ≡ pendingAt (textOn (now (tape .entry)) filled) 0 (now (said .entry)) 0 ⌝ }
-{
-    let end = text_end(tape, filled);
-    pending_at(&tape[..end], 0, said, 0)
-}
-
-// The answer to the event is noted, and what stands at the place after it is pending.
+// The answer to the event is noted, and what stands at the place after it is pending: the reader's next frame.
 pub fn next_pending(
     pending: Pending,
     answer: Answer,
-    tape: &[u8],
-    filled: usize,
+    frame: Frame,
+    text: &[u8],
     said: &mut [u8],
 ) -> Pending
-    ensures { λ r. ⌜ (r, now (said .exit)) ≡ nextPending (textOn (now (tape .entry)) filled) pending answer (now (said .entry)) ⌝ }
+    requires { ⌜ frame ≡ frameAt (now text) (pending .at) ⌝ }
+    ensures { λ r. ⌜ (r, now (said .exit)) ≡ nextPending (now (text .entry)) pending answer (now (said .entry)) ⌝ }
 {
     let at = pending.at;
     let written = pending.written;
@@ -138,8 +134,7 @@ pub fn next_pending(
         return paused(at, written);
     }
     put(printed(pending.event, answer_word(answer)), said, written);
-    let end = text_end(tape, filled);
-    pending_at(&tape[..end], at, said, written + PRINTED_BYTES)
+    pending_at(frame, text, at, said, written + PRINTED_BYTES)
 }
 
 pub fn heard_of(pending: Pending) -> Heard

@@ -7,8 +7,7 @@ use mathlib.Core.Path.{_≡_, refl}
 use Rattle.parts.specs.declared.part.Geometry.{Geometry}
 use Rattle.parts.specs.Part.{geometryOf}
 use Rattle.regions.specs.Page.{pageOf}
-use Rattle.load.specs.declared.Load.{Load}
-use Rattle.load.specs.Load.{storePage}
+use Rattle.load.specs.Load.{Load, storePage}
 use Rattle.load.specs.Choice.{choiceOf, laid}
 use Rattle.load.proofs.Laws.{stored-laid}
 use Rattle.control.specs.declared.Control.{Control}
@@ -42,8 +41,8 @@ module _ (c : Control) (load : Load) where
   lays true at store = stored-laid g at load store
   lays false at store = refl
 
-  pub stop-lays-array : (array : List ℕ) → stopArray c load array .1 ≡ cond (writesArray c load) (laidAt (c .arraycounter) array) array
-  stop-lays-array = lays (writesArray c load) (c .arraycounter)
+  pub stop-lays-array : (array : List ℕ) → stopArray c load array .1 ≡ cond (writesArray c (load .span)) (laidAt (c .arraycounter) array) array
+  stop-lays-array = lays (writesArray c (load .span)) (c .arraycounter)
 
-  pub stop-lays-security : (security : List ℕ) → stopSecurity c load security .1 ≡ cond (writesSecurity c load) (laidAt (c .securitycounter) security) security
-  stop-lays-security = lays (writesSecurity c load) (c .securitycounter)
+  pub stop-lays-security : (security : List ℕ) → stopSecurity c load security .1 ≡ cond (writesSecurity c (load .span)) (laidAt (c .securitycounter) security) security
+  stop-lays-security = lays (writesSecurity c (load .span)) (c .securitycounter)

@@ -8,5 +8,5 @@ use Rattle.base.proofs.Unique.{UniqueOutcome, same}
 use Rattle.cycle.proofs.stop.Kinds as stop-kinds
 use Rattle.cycle.proofs.stop.Reads as stop-reads
 
-pub stop-unique : UniqueOutcome stop-kinds.ps stop-kinds.r (Control × List ℕ × List ℕ) (λ κs result at. (result, now (at .1 .1 .0), now (at .1 .1 .1 .0))) stop-reads.Post
+pub stop-unique : UniqueOutcome stop-kinds.ps stop-kinds.r (Control × List ℕ × List ℕ) (λ κs result at. (result, now (at .1 .1 .1 .0), now (at .1 .1 .1 .1 .0))) stop-reads.Post
 stop-unique κs args x y at-x at-y = same

@@ -5,8 +5,8 @@ use mathlib.Core.Bool.{Bool, cond, not, _&&_}
 use mathlib.Core.List.{List}
 use Rattle.parts.specs.Part.{geometryOf}
 use Rattle.regions.specs.Page.{inIdPage}
-use Rattle.load.specs.declared.Load.{Load}
-use Rattle.load.specs.Load.{holds, storePage}
+use Rattle.load.specs.declared.Span.{Span}
+use Rattle.load.specs.Load.{Load, holds, storePage}
 use Rattle.control.specs.declared.Control.{Control}
 use Rattle.control.specs.declared.phase.Phase.{Phase}
 use Rattle.control.specs.declared.phase.Phase.the-variants.{Standby, Busy, AwaitsAddress, AwaitsChoice, AwaitsWord, TakesData, SendsByte}
@@ -18,22 +18,21 @@ use Rattle.protection.specs.Protection.{isProtected, idPageProtected}
 use Rattle.configuration.specs.Configuration.{stopConfiguration}
 
 -- with at least one data byte and the page not protected at this moment
-abbrev pub writesArray : Control → Load → Bool
-writesArray c load = holds (geometryOf (c .part)) load && not (isProtected c)
+abbrev pub writesArray : Control → Span → Bool
+writesArray c span = holds span && not (isProtected c)
 
 -- the same, in the ID page: the read-only half never changes
-abbrev pub writesSecurity : Control → Load → Bool
-writesSecurity c load =
-    holds (geometryOf (c .part)) load && (inIdPage (geometryOf (c .part)) (c .securitycounter) && not (idPageProtected c))
+abbrev pub writesSecurity : Control → Span → Bool
+writesSecurity c span = holds span && (inIdPage (geometryOf (c .part)) (c .securitycounter) && not (idPageProtected c))
 
 -- loaded bytes are stored into the page that the counter lies in, and the chip is busy; else nothing is stored and it is not
 abbrev pub stopArray : Control → Load → List ℕ → Control × List ℕ
 stopArray c load array =
-    cond (writesArray c load) (busyNow c, storePage (geometryOf (c .part)) (c .arraycounter) load array) (standbyNow c, array)
+    cond (writesArray c (load .span)) (busyNow c, storePage (geometryOf (c .part)) (c .arraycounter) load array) (standbyNow c, array)
 
 abbrev pub stopSecurity : Control → Load → List ℕ → Control × List ℕ
 stopSecurity c load security =
-    cond (writesSecurity c load) (busyNow c, storePage (geometryOf (c .part)) (c .securitycounter) load security) (standbyNow c, security)
+    cond (writesSecurity c (load .span)) (busyNow c, storePage (geometryOf (c .part)) (c .securitycounter) load security) (standbyNow c, security)
 
 -- the lock command, with at least one data byte
 abbrev pub stopLock : Bool → Control → Control

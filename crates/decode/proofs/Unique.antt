@@ -4,8 +4,6 @@ use Rattle.decode.proofs.hearing.lacks_cycle.Kinds as lacks-cycle-kinds
 use Rattle.decode.proofs.hearing.lacks_cycle.Reads as lacks-cycle-reads
 use Rattle.decode.proofs.hearing.clashes_with.Kinds as clashes-with-kinds
 use Rattle.decode.proofs.hearing.clashes_with.Reads as clashes-with-reads
-use Rattle.decode.proofs.hearing.hears.Kinds as hears-kinds
-use Rattle.decode.proofs.hearing.hears.Reads as hears-reads
 use Rattle.decode.proofs.decode_verdict.Kinds as decode-verdict-kinds
 use Rattle.decode.proofs.decode_verdict.Reads as decode-verdict-reads
 use Rattle.decode.proofs.addressed_of.Kinds as addressed-of-kinds
@@ -20,9 +18,6 @@ lacks-cycle-unique κs args x y at-x at-y = same
 
 pub clashes-with-unique : Unique clashes-with-kinds.ps clashes-with-kinds.r clashes-with-reads.Post
 clashes-with-unique κs args x y at-x at-y = same
-
-pub hears-unique : Unique hears-kinds.ps hears-kinds.r hears-reads.Post
-hears-unique κs args x y at-x at-y = same
 
 pub decode-verdict-unique : Unique decode-verdict-kinds.ps decode-verdict-kinds.r decode-verdict-reads.Post
 decode-verdict-unique κs args x y at-x at-y = same

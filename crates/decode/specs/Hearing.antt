@@ -1,5 +1,5 @@
 -- An event and the phase of a chip that it meets.
-use mathlib.Core.Bool.{Bool, true, false, not}
+use mathlib.Core.Bool.{Bool, false, not}
 use Rattle.control.specs.declared.phase.Phase.{Phase}
 use Rattle.control.specs.Phase.{isBusy, isSending, isTaking}
 use Rattle.chip.specs.declared.event.Event.{Event}
@@ -24,13 +24,3 @@ clashesWith (Read nack) phase = isTaking phase
 clashesWith (Wp level) phase = false
 clashesWith CycleOver phase = false
 clashesWith PowerUp phase = false
-
--- it may take notice: a byte sent means nothing to a chip that takes none, a byte read nothing to one that sends none
-abbrev pub hears : Event → Phase → Bool
-hears Start phase = true
-hears Stop phase = true
-hears (Sent byte) phase = isTaking phase
-hears (Read nack) phase = isSending phase
-hears (Wp level) phase = true
-hears CycleOver phase = true
-hears PowerUp phase = true

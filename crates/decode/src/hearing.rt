@@ -5,7 +5,7 @@ use control::phase::is_busy;
 use control::phase::is_sending;
 use control::phase::is_taking;
 ghost use mathlib.Core.Path.{_≡_};
-ghost use Rattle.decode.specs.Hearing.{lacksCycle, clashesWith, hears};
+ghost use Rattle.decode.specs.Hearing.{lacksCycle, clashesWith};
 
 // Refusal 12, of one chip.
 pub fn lacks_cycle(event: Event, phase: Phase) -> bool
@@ -34,20 +34,5 @@ pub fn clashes_with(event: Event, phase: Phase) -> bool
         Event::Wp(_) => false,
         Event::CycleOver => false,
         Event::PowerUp => false,
-    }
-}
-
-// Whether the chip may take notice. Others need not be moved at all.
-pub fn hears(event: Event, phase: Phase) -> bool
-    ensures { λ r. ⌜ r ≡ hears event phase ⌝ }
-{
-    match event {
-        Event::Start => true,
-        Event::Stop => true,
-        Event::Sent(_) => is_taking(phase),
-        Event::Read(_) => is_sending(phase),
-        Event::Wp(_) => true,
-        Event::CycleOver => true,
-        Event::PowerUp => true,
     }
 }

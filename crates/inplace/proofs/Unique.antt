@@ -16,6 +16,7 @@ use denote.Triple.Clauses.{AtExit}
 use denote.Triple.Entry.{Args}
 use Rattle.base.proofs.Unique.{same}
 use Rattle.refusal.specs.declared.Answer.{Answer}
+use Rattle.refusal.specs.declared.Verdict.{Verdict}
 use Rattle.bus.specs.declared.Bus.{Bus}
 use Rattle.bus.specs.declared.Stepped.{Stepped}
 use Rattle.inplace.specs.InPlace.{StepsInPlace}
@@ -28,13 +29,13 @@ Outcome = Stepped × List ℕ × List ℕ
 module _ {M : Type 1} (𝓤 : URA M) (H : Heap 𝓤) (A : Atoms 𝓤) (mem : Memory → SProp 𝓤) (run : Routine → Fun 𝓤) where
   pub step-in-place-says : (κs : Lfts 3) (args : Args step-in-place.signature κs) (answer : Answer) (end : AtExit step-in-place.ended κs)
       → step-in-place.clauses 𝓤 H A mem run κs args .ensures tt answer end
-      ≡ fact 𝓤 (StepsInPlace (now (args .0)) (now (args .1 .0)) (now (args .1 .1 .0)) (args .1 .1 .1 .0) answer (now (end .0)) (now (end .1 .0)) (now (end .1 .1 .0)))
+      ≡ fact 𝓤 (StepsInPlace (now (args .0)) (args .1 .0) (now (args .1 .1 .0)) (now (args .1 .1 .1 .0)) (args .1 .1 .1 .1 .0) answer (now (end .0)) (now (end .1 .1 .0)) (now (end .1 .1 .1 .0)))
   step-in-place-says κs args answer end = refl
 
 -- the answer, the bus that was lent, and the two stores
-pub step-in-place-unique : (bus : Bus) (array security : List ℕ) (word : ℕ) (x y : Answer) (bus-x bus-y : Bus) (array-x array-y security-x security-y : List ℕ)
-    → StepsInPlace bus array security word x bus-x array-x security-x
-    → StepsInPlace bus array security word y bus-y array-y security-y
+pub step-in-place-unique : (bus : Bus) (entry : Verdict) (array security : List ℕ) (word : ℕ) (x y : Answer) (bus-x bus-y : Bus) (array-x array-y security-x security-y : List ℕ)
+    → StepsInPlace bus entry array security word x bus-x array-x security-x
+    → StepsInPlace bus entry array security word y bus-y array-y security-y
     → (x ≡ y) × (bus-x ≡ bus-y) × (array-x ≡ array-y) × (security-x ≡ security-y)
-step-in-place-unique bus array security word x y bus-x bus-y array-x array-y security-x security-y one other =
+step-in-place-unique bus entry array security word x y bus-x bus-y array-x array-y security-x security-y one other =
     (ap (λ (o : Outcome). o .0 .answer) (same one other), ap (λ (o : Outcome). o .0 .bus) (same one other), ap (λ (o : Outcome). o .1) (same one other), ap (λ (o : Outcome). o .2) (same one other))

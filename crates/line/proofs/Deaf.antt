@@ -1,9 +1,9 @@
--- A chip that does not hear an event stays as it is and says nothing: no byte is for a chip that takes none, and no byte comes from
--- one that sends none.
+-- A byte sent means nothing to a chip that takes none, and a byte read nothing to one that sends none: it stays as it is and says nothing, and the
+-- values stay.
 use Prim.Native.Nat.{ℕ}
-use mathlib.Core.Bool.{Bool, false, true≢false, false≢true}
+use mathlib.Core.Bool.{Bool, true, false, cond, _&&_, true≢false}
 use mathlib.Core.List.{List}
-use mathlib.Core.Path.{_≡_, refl, sym}
+use mathlib.Core.Path.{_≡_, refl, sym, ap}
 use Rattle.control.specs.declared.Answered.{Answered}
 use Rattle.control.specs.declared.phase.Phase.{Phase}
 use Rattle.control.specs.Phase.{isSending, isTaking}
@@ -13,35 +13,36 @@ use Rattle.sending.specs.Sending as sending
 use Rattle.sending.proofs.Laws.{read-either}
 use Rattle.chip.specs.declared.Chip.{Chip}
 use Rattle.chip.specs.declared.Stepped.{Stepped}
-use Rattle.chip.specs.declared.event.Event.{Event}
-use Rattle.chip.specs.declared.event.Event.the-variants.{Start, Stop, Sent, Read, Wp, CycleOver, PowerUp}
-use Rattle.chip.specs.Chip.{quiet, step}
-use Rattle.decode.specs.Hearing.{hears}
+use Rattle.chip.specs.declared.event.Event.the-variants.{Sent, Read}
+use Rattle.chip.specs.Chip.{quiet, taken, read, step}
 
-module _ (c : Chip) (array security : List ℕ) where
-  abbrev stays : Stepped × List ℕ × List ℕ
-  stays = (quiet c, array, security)
-
-  sent : (byte : ℕ) → isTaking (c .control .phase) ≡ false → step c array security (Sent byte) ≡ stays
-  unfolding step taking.take taking.loaded
-  sent byte deaf =
-      not-taking-is (c .control .phase) deaf (λ (phase : Phase). c .control .phase ≡ phase → step c array security (Sent byte) ≡ stays)
+module _ (c : Chip) where
+  pub deaf-to-sent : (byte : ℕ) (values : List ℕ) → isTaking (c .control .phase) ≡ false → taken c byte values ≡ (quiet c, values)
+  unfolding taking.take taking.spanAfter taking.valuesAfter
+  deaf-to-sent byte values deaf =
+      not-taking-is (c .control .phase) deaf (λ (phase : Phase). c .control .phase ≡ phase → taken c byte values ≡ (quiet c, values))
       (λ is. rw is)
       (λ is. rw is)
       (λ source is. rw is)
       refl
 
-  read : (nack : Bool) → isSending (c .control .phase) ≡ false → step c array security (Read nack) ≡ stays
-  unfolding step sending.read
-  read nack deaf =
-      read-either (c .control) array security nack (λ (x : Answered). (record { chip = record { control = x .control; load = c .load }; said = x .said }, array, security) ≡ stays) refl (c .control .phase)
+  pub deaf-to-read : (array security : List ℕ) (nack : Bool) → isSending (c .control .phase) ≡ false → read c array security nack ≡ quiet c
+  unfolding sending.read
+  deaf-to-read array security nack deaf =
+      read-either (c .control) array security nack (λ (x : Answered). record { chip = record { control = x .control; span = c .span }; said = x .said } ≡ quiet c) refl (c .control .phase)
       (λ source sends. absurd (true≢false (rw sends at deaf)))
 
-  pub deaf-stays : (event : Event) → hears event (c .control .phase) ≡ false → step c array security event ≡ stays
-  deaf-stays Start deaf = absurd (false≢true (sym deaf))
-  deaf-stays Stop deaf = absurd (false≢true (sym deaf))
-  deaf-stays (Sent byte) deaf = sent byte deaf
-  deaf-stays (Read nack) deaf = read nack deaf
-  deaf-stays (Wp level) deaf = absurd (false≢true (sym deaf))
-  deaf-stays CycleOver deaf = absurd (false≢true (sym deaf))
-  deaf-stays PowerUp deaf = absurd (false≢true (sym deaf))
+  -- the same, of its step
+  module _ (values array security : List ℕ) where
+    pub sent-stays : (byte : ℕ) → isTaking (c .control .phase) ≡ false → step c values array security (Sent byte) ≡ (quiet c, array, security)
+    unfolding step
+    sent-stays byte deaf = ap (λ (x : Stepped × List ℕ). (x .0, array, security)) (deaf-to-sent byte values deaf)
+
+    pub read-stays : (nack : Bool) → isSending (c .control .phase) ≡ false → step c values array security (Read nack) ≡ (quiet c, array, security)
+    unfolding step
+    read-stays nack deaf = ap (λ (x : Stepped). (x, array, security)) (deaf-to-read array security nack deaf)
+
+-- so a chip that an event does not reach, or that is deaf to it, need not be moved
+pub passed-by : {A : Type 0} (reached hears : Bool) (moved stays : A) → (hears ≡ false → moved ≡ stays) → (reached && hears) ≡ false → stays ≡ cond reached moved stays
+passed-by true hears moved stays deaf not = sym (deaf not)
+passed-by false hears moved stays deaf not = refl

@@ -20,7 +20,7 @@ use Rattle.line.specs.Line.{lineChecks}
 
 -- 24CS32 at straps 0 to 3, each in a phase of its own
 abbrev chipIn : Phase → ℕ → Chip
-chipIn phase strap = let c = fresh 2 strap in record { control = inPhase phase (c .control); load = c .load }
+chipIn phase strap = let c = fresh 2 strap in record { control = inPhase phase (c .control); span = c .span }
 
 abbrev chips : List Chip
 chips = chipIn Standby 0 ∷ chipIn Busy 1 ∷ chipIn AwaitsAddress 2 ∷ chipIn (TakesData ToArray) 3 ∷ []

@@ -1,35 +1,36 @@
--- One iteration of the loop over the chips is `chipTakes`: shares that are cut at the stores' ends are the spans of the definition, and a
--- chip that the event does not reach, or that does not hear it, need not be moved.
+-- One iteration of a loop over the chips is `chipTakes`: shares that are cut at the stores' ends are the spans of the definition, and what a
+-- chip makes of the event on its shares lands in its place.
 use Prim.Native.Nat.{ℕ, _+_, _-_, _<_, _≤_}
-use native.Mathlib.Decide.{decLe, decLt}
+use native.Mathlib.Decide.{decLe}
 use native.Mathlib.Omega.{arith}
-use mathlib.Core.Bool.{Bool, true, false, _&&_}
-use mathlib.Core.List.{List, _++_}
+use mathlib.Core.Bool.{Bool, true, false, cond}
+use mathlib.Core.List.{List, [], _++_}
 use mathlib.Core.Path.{_≡_, _∙_, refl, sym, ap}
 use lib.ListN.{length, take, drop, set}
-use lib.Dec.{ltb}
 use lib.Seq.{set-getD}
-use borrow.Author.Tests.{lt-ltb}
 use Rattle.base.specs.Fold.{upTo}
 use Rattle.base.specs.Least.{least}
 use Rattle.base.specs.Store.{span, patched}
-use Rattle.base.proofs.Fold.{up-more}
+use Rattle.base.proofs.Fold.{up-more, up-keeps}
 use Rattle.base.proofs.Cut.{patched-same, least-step, span-cut, patched-cut}
 use Rattle.base.proofs.number.Laws.{least-first, least-second, least-most}
-use Rattle.base.proofs.logic.Laws.{first-one, second-one}
+use Rattle.base.proofs.logic.Laws.{either}
 use Rattle.control.specs.declared.Said.{Said}
 use Rattle.chip.specs.declared.Chip.{Chip}
 use Rattle.chip.specs.declared.Stepped.{Stepped}
-use Rattle.chip.specs.Chip.{step}
+use Rattle.chip.specs.Chip.{quiet, taken, read, stop, moved, meetsNothing, step, valuesAfter}
+use Rattle.chip.specs.declared.event.Event.the-variants.{Stop, Sent, Read}
+use Rattle.parts.specs.Part.{geometryOf}
+use Rattle.chip.proofs.Laws.{isSent, moves-alone, only-sent-loads}
 use Rattle.board.specs.declared.Place.{Place}
+use Rattle.board.specs.Place.{placed}
 use Rattle.board.specs.Shares.{figuresAt, arrayStart, securityStart}
 use Rattle.decode.specs.declared.Addressed.{Addressed}
 use Rattle.decode.specs.Decode.{reaches, eventOf}
-use Rattle.decode.specs.Hearing.{hears}
-use Rattle.lineup.specs.Chips.{noChip, chipAt}
-use Rattle.lineup.proofs.Until.{until-more, until-past}
-use Rattle.line.specs.Line.{arrayShare, securityShare, heard, OnLine, landed, chipTakes}
-use Rattle.line.proofs.Deaf.{deaf-stays}
+use Rattle.lineup.specs.Chips.{noChip, chipAt, placesOf}
+use Rattle.lineup.proofs.Laws.{place-at}
+use Rattle.line.specs.Line as line
+use Rattle.line.specs.Line.{chipLoads, arrayShare, securityShare, heard, OnLine, landed, chipTakes}
 
 abbrev pub onLine : List Chip → Said → List ℕ → List ℕ → OnLine
 onLine chips said array security = (record { chips = chips; said = said }, array, security)
@@ -64,40 +65,112 @@ module _ (start size from to : ℕ) (store : List ℕ) (begins : from ≡ least 
   pub back : (values : List ℕ) → length values ≡ length (take (to - from) (drop from store)) → take from store ++ (values ++ drop (to - from) (drop from store)) ≡ patched start values store
   back values kept = rw (begins, ends) (patched-cut start size store values (rw (begins, ends) at kept))
 
-module _ (addressed : Addressed) (places : List Place) (i : ℕ) (chips : List Chip) (said : Said) (array security : List ℕ) where
-  -- the event reaches the chip, and it takes it on its shares
-  pub chip-takes : (stepped : Stepped) (array′ security′ share share′ after after′ : List ℕ) (more : Said) → reaches addressed i ≡ true
+-- or handed back as it was
+pub kept : (start size : ℕ) (store : List ℕ) {share : List ℕ} → share ≡ span start size store → store ≡ patched start share store
+kept start size store is = rw is (sym (patched-same start size store))
+
+-- what chip i makes of the event on some shares: its step, or it stays where it is not reached
+abbrev pub takesOn : Addressed → List ℕ → ℕ → Chip → List ℕ → List ℕ → Stepped × List ℕ × List ℕ
+takesOn addressed values i c share share′ = cond (reaches addressed i) (step c values share share′ (eventOf addressed)) (quiet c, share, share′)
+
+module _ (addressed : Addressed) (values : List ℕ) (places : List Place) (i : ℕ) (chips : List Chip) (said : Said) (array security : List ℕ) where
+  abbrev c : Chip
+  c = chipAt chips i
+
+  abbrev a : List ℕ
+  a = arrayShare places i array
+
+  abbrev s : List ℕ
+  s = securityShare places i security
+
+  -- it lands, whether it is reached or put back as it is
+  pub chip-lands : chipTakes addressed values places i (onLine chips said array security) ≡ landed places i (onLine chips said array security) (takesOn addressed values i c a s)
+  chip-lands = go (reaches addressed i)
+    where
+      go : (reached : Bool) → cond reached (landed places i (onLine chips said array security) (step c values a s (eventOf addressed))) (onLine chips said array security)
+          ≡ landed places i (onLine chips said array security) (cond reached (step c values a s (eventOf addressed)) (quiet c, a, s))
+      go true = refl
+      go false =
+          rw (set-getD chips i noChip, patched-same (arrayStart places i) (figuresAt places i .array) array, patched-same (securityStart places i) (figuresAt places i .security) security)
+
+  -- on shares that were lent and handed back
+  pub shares-land : (stepped : Stepped) (array′ security′ share share′ after after′ : List ℕ) (more : Said)
       → share ≡ arrayShare places i array
       → share′ ≡ securityShare places i security
       → array′ ≡ patched (arrayStart places i) after array
       → security′ ≡ patched (securityStart places i) after′ security
-      → (stepped, after, after′) ≡ step (chipAt chips i) share share′ (eventOf addressed)
+      → (stepped, after, after′) ≡ takesOn addressed values i (chipAt chips i) share share′
       → more ≡ heard said (stepped .said)
-      → onLine (set chips i (stepped .chip)) more array′ security′ ≡ chipTakes addressed places i (onLine chips said array security)
-  chip-takes stepped array′ security′ share share′ after after′ more reached is is′ put put′ does says =
-      let done : (stepped, after, after′) ≡ step (chipAt chips i) (arrayShare places i array) (securityShare places i security) (eventOf addressed) = rw (is, is′) at does in
-      first-one _ _ reached (rw (put, put′, says) (ap (landed places i (onLine chips said array security)) done))
+      → onLine (set chips i (stepped .chip)) more array′ security′ ≡ chipTakes addressed values places i (onLine chips said array security)
+  shares-land stepped array′ security′ share share′ after after′ more is is′ put put′ does says =
+      let done : (stepped, after, after′) ≡ takesOn addressed values i c a s = rw (is, is′) at does in
+      rw (put, put′, says) (ap (landed places i (onLine chips said array security)) done) ∙ sym chip-lands
 
-  -- or it does not, or means nothing to the chip
-  pub chip-passed-by : (reached : Bool) → reaches addressed i ≡ reached → (reached && hears (eventOf addressed) (chipAt chips i .control .phase)) ≡ false
-      → onLine chips said array security ≡ chipTakes addressed places i (onLine chips said array security)
-  chip-passed-by true is deaf =
-      first-one _ _ is
-      (sym (
-      ap (landed places i (onLine chips said array security)) (deaf-stays (chipAt chips i) _ _ (eventOf addressed) deaf)
-      ∙ rw (set-getD chips i noChip, patched-same (arrayStart places i) (figuresAt places i .array) array, patched-same (securityStart places i) (figuresAt places i .security) security) refl
-      ))
-  chip-passed-by false is deaf = second-one _ _ is refl
+  -- where the event leaves the shares
+  pub alone-lands : (stepped : Stepped) (more : Said) → (stepped, arrayShare places i array, securityShare places i security) ≡ takesOn addressed values i (chipAt chips i) (arrayShare places i array) (securityShare places i security)
+      → more ≡ heard said (stepped .said)
+      → onLine (set chips i (stepped .chip)) more array security ≡ chipTakes addressed values places i (onLine chips said array security)
+  alone-lands stepped more does says =
+      shares-land stepped array security a s a s more refl refl
+      (sym (patched-same (arrayStart places i) (figuresAt places i .array) array))
+      (sym (patched-same (securityStart places i) (figuresAt places i .security) security))
+      does
+      says
 
--- the chips past the count, and those that the event passes by, are not moved
-module _ (addressed : Addressed) (places : List Place) (i n : ℕ) (chips : List Chip) (said : Said) (array security : List ℕ) (start : OnLine) (so-far : onLine chips said array security ≡ upTo (chipTakes addressed places) (least i n) start) where
-  pub none-takes : (ltb i n && (reaches addressed i && hears (eventOf addressed) (chipAt chips i .control .phase))) ≡ false
-      → onLine chips said array security ≡ upTo (chipTakes addressed places) (least (i + 1) n) start
-  none-takes passed = go (decLt i n)
+  -- an event that meets neither stores nor values moves the chip alone
+  pub moves : meetsNothing (eventOf addressed) ≡ true
+      → (quiet (cond (reaches addressed i) (moved (chipAt chips i) (eventOf addressed)) (chipAt chips i)), arrayShare places i array, securityShare places i security)
+      ≡ takesOn addressed values i (chipAt chips i) (arrayShare places i array) (securityShare places i security)
+  moves nothing = go (reaches addressed i)
     where
-      go : Dec (i < n) → onLine chips said array security ≡ upTo (chipTakes addressed places) (least (i + 1) n) start
-      go (yes p) =
-          until-more (chipTakes addressed places) n start i so-far p
-          (chip-passed-by addressed places i chips said array security _ refl
-          (ap (λ (here : Bool). here && (reaches addressed i && hears (eventOf addressed) (chipAt chips i .control .phase))) (sym (lt-ltb i n p)) ∙ passed))
-      go (no p) = until-past (chipTakes addressed places) n start i so-far (omega arith) refl
+      go : (reached : Bool) → (quiet (cond reached (moved c (eventOf addressed)) c), a, s) ≡ cond reached (step c values a s (eventOf addressed)) (quiet c, a, s)
+      go true = sym (moves-alone c values a s (eventOf addressed) nothing)
+      go false = refl
+
+  -- a byte sent leaves the shares, and may be loaded
+  pub takes-byte : (byte : ℕ) → eventOf addressed ≡ Sent byte → (stepped : Stepped) (before after : List ℕ)
+      → (stepped, after) ≡ cond (reaches addressed i) (taken (chipAt chips i) byte before) (quiet (chipAt chips i), before)
+      → ((stepped, arrayShare places i array, securityShare places i security) ≡ takesOn addressed values i (chipAt chips i) (arrayShare places i array) (securityShare places i security))
+      × (after ≡ cond (reaches addressed i) (valuesAfter (chipAt chips i) (eventOf addressed) before) before)
+  unfolding step valuesAfter
+  takes-byte byte is stepped before after = go (reaches addressed i)
+    where
+      go : (reached : Bool) → (stepped, after) ≡ cond reached (taken c byte before) (quiet c, before)
+          → ((stepped, a, s) ≡ cond reached (step c values a s (eventOf addressed)) (quiet c, a, s)) × (after ≡ cond reached (valuesAfter c (eventOf addressed) before) before)
+      go true does = rw is (ap (λ (x : Stepped × List ℕ). (x .0, a, s)) does, ap (λ (x : Stepped × List ℕ). x .1) does)
+      go false does = (ap (λ (x : Stepped × List ℕ). (x .0, a, s)) does, ap (λ (x : Stepped × List ℕ). x .1) does)
+
+  -- a Stop, and a byte read, on shares that are lent
+  pub takes-stop : eventOf addressed ≡ Stop → (next : Chip) (share share′ after after′ : List ℕ)
+      → (next, after, after′) ≡ cond (reaches addressed i) (stop (chipAt chips i) values share share′) (chipAt chips i, share, share′)
+      → (quiet next, after, after′) ≡ takesOn addressed values i (chipAt chips i) share share′
+  unfolding step
+  takes-stop is next share share′ after after′ = go (reaches addressed i)
+    where
+      go : (reached : Bool) → (next, after, after′) ≡ cond reached (stop c values share share′) (c, share, share′)
+          → (quiet next, after, after′) ≡ cond reached (step c values share share′ (eventOf addressed)) (quiet c, share, share′)
+      go true does = rw is (ap (λ (x : Chip × List ℕ × List ℕ). (quiet (x .0), x .1, x .2)) does)
+      go false does = ap (λ (x : Chip × List ℕ × List ℕ). (quiet (x .0), x .1, x .2)) does
+
+  pub takes-read : (nack : Bool) → eventOf addressed ≡ Read nack → (stepped : Stepped) (share share′ : List ℕ)
+      → stepped ≡ cond (reaches addressed i) (read (chipAt chips i) share share′ nack) (quiet (chipAt chips i))
+      → (stepped, share, share′) ≡ takesOn addressed values i (chipAt chips i) share share′
+  unfolding step
+  takes-read nack is stepped share share′ = go (reaches addressed i)
+    where
+      go : (reached : Bool) → stepped ≡ cond reached (read c share share′ nack) (quiet c)
+          → (stepped, share, share′) ≡ cond reached (step c values share share′ (eventOf addressed)) (quiet c, share, share′)
+      go true does = rw is (ap (λ (x : Stepped). (x, share, share′)) does)
+      go false does = ap (λ (x : Stepped). (x, share, share′)) does
+
+-- a chip that the loop has not come to is as it came, so its part is the one on the board
+pub figures-there : (chips next : List Chip) (i : ℕ) → i < 4 → chipAt next i ≡ chipAt chips i → geometryOf (chipAt next i .control .part) ≡ figuresAt (placesOf chips) i
+figures-there chips next i below same = rw (place-at chips i below) (ap (λ (c : Chip). geometryOf (c .control .part)) same)
+
+-- an event that is no byte sent leaves the values
+pub values-stay : (addressed : Addressed) (count : ℕ) (chips : List Chip) (values : List ℕ) → isSent (eventOf addressed) ≡ false → values ≡ line.valuesAfter addressed count chips values
+unfolding line.valuesAfter
+values-stay addressed count chips values other =
+    up-keeps (chipLoads addressed chips) (λ (now : List ℕ). values ≡ now)
+    (λ i now same. same ∙ either (λ (next : List ℕ). now ≡ next) (reaches addressed i) _ now (sym (only-sent-loads (chipAt chips i) now [] [] (eventOf addressed) other)) refl)
+    (placed count) values refl

@@ -15,7 +15,7 @@ use Rattle.line.proofs.line_reply.Reads as line-reply-reads
 pub line-verdict-unique : Unique line-verdict-kinds.ps line-verdict-kinds.r line-verdict-reads.Post
 line-verdict-unique κs args x y at-x at-y = same
 
-pub play-unique : UniqueOutcome play-kinds.ps play-kinds.r (Played × List ℕ × List ℕ) (λ κs result at. (result, now (at .1 .1 .1 .0), now (at .1 .1 .1 .1 .0))) play-reads.Post
+pub play-unique : UniqueOutcome play-kinds.ps play-kinds.r ((Played × List ℕ × List ℕ) × List ℕ) (λ κs result at. ((result, now (at .1 .1 .1 .1 .0), now (at .1 .1 .1 .1 .1 .0)), now (at .1 .1 .1 .0))) play-reads.Post
 play-unique κs args x y at-x at-y = same
 
 pub line-reply-unique : Unique line-reply-kinds.ps line-reply-kinds.r line-reply-reads.Post

@@ -5,22 +5,31 @@ use base::number::least;
 use board::PLACES;
 use board::placed;
 use chip::Chip;
+use chip::Stepped;
 use chip::event::Event;
 use control::Said;
 use control::phase::Phase;
+use control::phase::is_sending;
+use control::phase::is_taking;
 use decode::Addressed;
 use decode::event_of;
 use decode::hearing::clashes_with;
-use decode::hearing::hears;
 use decode::hearing::lacks_cycle;
 use decode::reaches;
 use lineup::controls_of;
+use load::PAGE_MOST;
 use parts::part::geometry_of;
 use refusal::Refusal;
 use refusal::Verdict;
 ghost use mathlib.Core.Path.{_≡_};
+ghost use Rattle.parts.specs.Part.{geometryOf};
 ghost use Rattle.refusal.specs.Checks.{firstOf};
-ghost use Rattle.line.specs.Line.{notBusy, clash, lineChecks, heard, play, unanswered, lineReply};
+ghost use mathlib.Core.Bool.{true, cond};
+ghost use Prim.Native.Nat.{_≤_, _^_};
+ghost use Rattle.chip.specs.declared.event.Event.the-variants as Event;
+ghost use Rattle.chip.specs.Chip.{quiet, taken, read, stop, moved, meetsNothing};
+ghost use Rattle.decode.specs.Decode.{reaches, eventOf};
+ghost use Rattle.line.specs.Line.{notBusy, clash, lineChecks, heard, shareEnds, play, valuesAfter, playWith, LeavesStores, LeavesAll, ReadsFrom, unanswered, lineReply};
 
 // What the line carries when nobody speaks: to a byte read, and to every other event.
 const IDLE: u8 = 0xFF;
@@ -93,43 +102,223 @@ fn heard(before: Said, said: Said) -> Said
     }
 }
 
-// One chip after the other. Shares are cut at the stores' ends, so that stores of a wrong length are safe too; a step lets none through.
-// The iterations are as many as there are places: LLVM then has one way through, and copies the chips once in and once out.
-pub fn play(
+// A chip that the event does not reach stays.
+fn moved_if(reached: bool, chip: Chip, event: Event) -> Chip
+    ensures { λ r. ⌜ r ≡ cond reached (moved chip event) chip ⌝ }
+{
+    if reached {
+        return chip.moved(event);
+    }
+    chip
+}
+
+// Events that meet neither the stores nor the values: Start, power up, and those that name a chip.
+fn move_each(addressed: Addressed, count: usize, chips: [Chip; PLACES]) -> Played
+    requires { ⌜ meetsNothing (eventOf addressed) ≡ true ⌝ }
+    ensures { λ r. ⌜ LeavesAll addressed count chips r ⌝ }
+{
+    let n = placed(count);
+    let event = event_of(addressed);
+    let mut next = chips;
+    let mut i: usize = 0;
+    while i < n {
+        let chip = next[i];
+        next[i] = moved_if(reaches(addressed, i), chip, event);
+        i += 1;
+    }
+    Played {
+        chips: next,
+        said: Said::Nothing,
+    }
+}
+
+// A byte sent means nothing to a chip that takes none.
+fn take_if(reached: bool, chip: Chip, byte: u8, values: &mut [u8; PAGE_MOST]) -> Stepped
+    ensures { λ r. ⌜ (r, now (values .exit)) ≡ cond reached (taken chip byte (now (values .entry))) (quiet chip, now (values .entry)) ⌝ }
+{
+    let control = chip.control;
+    let phase = control.phase;
+    if and(reached, is_taking(phase)) {
+        return chip.take(byte, values);
+    }
+    Stepped {
+        chip,
+        said: Said::Nothing,
+    }
+}
+
+fn take_each(
+    addressed: Addressed,
+    byte: u8,
+    count: usize,
+    chips: [Chip; PLACES],
+    values: &mut [u8; PAGE_MOST],
+) -> Played
+    requires { ⌜ eventOf addressed ≡ Event.Sent byte ⌝ }
+    ensures { λ r. ⌜ LeavesStores addressed count chips (now (values .entry)) r × (now (values .exit) ≡ valuesAfter addressed count chips (now (values .entry))) ⌝ }
+{
+    let n = placed(count);
+    let mut next = chips;
+    let mut said = Said::Nothing;
+    let mut i: usize = 0;
+    while i < n {
+        let chip = next[i];
+        let stepped = take_if(reaches(addressed, i), chip, byte, values);
+        let after = stepped.chip;
+        let more = stepped.said;
+        next[i] = after;
+        said = heard(said, more);
+        i += 1;
+    }
+    Played { chips: next, said }
+}
+
+// Where the shares of a chip end that begin at two places of the stores. They are cut at the stores' ends, so that stores of a wrong length are
+// safe too; a step lets none through.
+struct Ends {
+    array: usize,
+    security: usize,
+}
+
+fn share_ends(chip: Chip, at: usize, from: usize, array: usize, security: usize) -> Ends
+    requires { ⌜ at ≤ 2 ^ 32 ⌝ }
+    requires { ⌜ from ≤ 2 ^ 32 ⌝ }
+    ensures { λ r. ⌜ r ≡ shareEnds (geometryOf (chip .control .part)) at from array security ⌝ }
+{
+    let control = chip.control;
+    let figures = geometry_of(control.part);
+    Ends {
+        array: least(at + figures.array as usize, array),
+        security: least(from + figures.security as usize, security),
+    }
+}
+
+fn stop_if(
+    reached: bool,
+    chip: Chip,
+    values: &[u8; PAGE_MOST],
+    array: &mut [u8],
+    security: &mut [u8],
+) -> Chip
+    ensures { λ r. ⌜ (r, now (array .exit), now (security .exit)) ≡ cond reached (stop chip (now (values .entry)) (now (array .entry)) (now (security .entry))) (chip, now (array .entry), now (security .entry)) ⌝ }
+{
+    if reached {
+        return chip.stop(values, array, security);
+    }
+    chip
+}
+
+// A Stop: each chip stores to its own shares.
+fn stop_each(
     addressed: Addressed,
     count: usize,
     chips: [Chip; PLACES],
+    values: &[u8; PAGE_MOST],
     array: &mut [u8],
     security: &mut [u8],
 ) -> Played
-    ensures { λ r. ⌜ (r, now (array .exit), now (security .exit)) ≡ play addressed count chips (now (array .entry)) (now (security .entry)) ⌝ }
+    requires { ⌜ eventOf addressed ≡ Event.Stop ⌝ }
+    ensures { λ r. ⌜ (r, now (array .exit), now (security .exit)) ≡ play addressed count chips (now (values .entry)) (now (array .entry)) (now (security .entry)) ⌝ }
 {
-    let event = event_of(addressed);
+    let n = placed(count);
+    let mut next = chips;
+    let mut at: usize = 0;
+    let mut from: usize = 0;
+    let mut i: usize = 0;
+    while i < n {
+        let chip = next[i];
+        let ends = share_ends(chip, at, from, array.len(), security.len());
+        let end = ends.array;
+        let to = ends.security;
+        next[i] = stop_if(
+            reaches(addressed, i),
+            chip,
+            values,
+            &mut array[at..end],
+            &mut security[from..to],
+        );
+        at = end;
+        from = to;
+        i += 1;
+    }
+    Played {
+        chips: next,
+        said: Said::Nothing,
+    }
+}
+
+// A byte read means nothing to a chip that sends none.
+fn read_if(reached: bool, chip: Chip, array: &[u8], security: &[u8], nack: bool) -> Stepped
+    ensures { λ r. ⌜ r ≡ cond reached (read chip (now (array .entry)) (now (security .entry)) nack) (quiet chip) ⌝ }
+{
+    let control = chip.control;
+    let phase = control.phase;
+    if and(reached, is_sending(phase)) {
+        return chip.read(array, security, nack);
+    }
+    Stepped {
+        chip,
+        said: Said::Nothing,
+    }
+}
+
+// A byte read: each chip sends from its own shares.
+fn read_each(
+    addressed: Addressed,
+    nack: bool,
+    count: usize,
+    chips: [Chip; PLACES],
+    array: &[u8],
+    security: &[u8],
+) -> Played
+    requires { ⌜ eventOf addressed ≡ Event.Read nack ⌝ }
+    ensures { λ r. ⌜ ReadsFrom addressed count chips (now (array .entry)) (now (security .entry)) r ⌝ }
+{
     let n = placed(count);
     let mut next = chips;
     let mut said = Said::Nothing;
     let mut at: usize = 0;
     let mut from: usize = 0;
     let mut i: usize = 0;
-    while i < PLACES {
+    while i < n {
         let chip = next[i];
-        let control = chip.control;
-        let figures = geometry_of(control.part);
-        let end = least(at + figures.array as usize, array.len());
-        let to = least(from + figures.security as usize, security.len());
-        let phase = control.phase;
-        if and(i < n, and(reaches(addressed, i), hears(event, phase))) {
-            let stepped = chip.step(&mut array[at..end], &mut security[from..to], event);
-            let after = stepped.chip;
-            let more = stepped.said;
-            next[i] = after;
-            said = heard(said, more);
-        }
+        let ends = share_ends(chip, at, from, array.len(), security.len());
+        let end = ends.array;
+        let to = ends.security;
+        let reached = reaches(addressed, i);
+        let stepped = read_if(reached, chip, &array[at..end], &security[from..to], nack);
+        let after = stepped.chip;
+        let more = stepped.said;
+        next[i] = after;
+        said = heard(said, more);
         at = end;
         from = to;
         i += 1;
     }
     Played { chips: next, said }
+}
+
+// What an event meets is asked once, outside the loop over the chips.
+pub fn play(
+    addressed: Addressed,
+    count: usize,
+    chips: [Chip; PLACES],
+    values: &mut [u8; PAGE_MOST],
+    array: &mut [u8],
+    security: &mut [u8],
+) -> Played
+    ensures { λ r. ⌜ ((r, now (array .exit), now (security .exit)), now (values .exit)) ≡ playWith addressed count chips (now (values .entry)) (now (array .entry)) (now (security .entry)) ⌝ }
+{
+    let event = event_of(addressed);
+    match event {
+        Event::Start => move_each(addressed, count, chips),
+        Event::Stop => stop_each(addressed, count, chips, values, array, security),
+        Event::Sent(byte) => take_each(addressed, byte, count, chips, values),
+        Event::Read(nack) => read_each(addressed, nack, count, chips, array, security),
+        Event::Wp(_) => move_each(addressed, count, chips),
+        Event::CycleOver => move_each(addressed, count, chips),
+        Event::PowerUp => move_each(addressed, count, chips),
+    }
 }
 
 fn unanswered(event: Event) -> u8

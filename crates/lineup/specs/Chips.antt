@@ -1,6 +1,6 @@
 -- The chips of a line, and the board that they make.
 use Prim.Native.Nat.{ℕ}
-use mathlib.Core.List.{List, []}
+use mathlib.Core.List.{List}
 use lib.ListN.{getD, set, replicate}
 use Rattle.base.specs.Fold.{upTo}
 use Rattle.load.specs.Span.{emptySpan}
@@ -12,7 +12,7 @@ use Rattle.board.specs.Place.{nowhere}
 
 -- the language's own value for a chip past the last place; nothing reads it
 abbrev pub noChip : Chip
-noChip = record { control = fresh 0 0; load = record { span = emptySpan; values = [] } }
+noChip = record { control = fresh 0 0; span = emptySpan }
 
 abbrev pub chipAt : List Chip → ℕ → Chip
 chipAt chips i = getD chips i noChip

@@ -33,7 +33,7 @@ pub fn places_of(chips: [Chip; PLACES]) -> [Place; PLACES]
     places
 }
 
-// Every chip without its load, those past the count too: what one chip is beside another needs no load, and a load is long.
+// Every chip without its load, those past the count too: what one chip is beside another needs no load.
 pub fn controls_of(chips: [Chip; PLACES]) -> [Control; PLACES]
     ensures { λ r. ⌜ r ≡ controlsOf chips ⌝ }
 {

@@ -5,33 +5,32 @@ use native.Mathlib.Omega.{arith}
 use mathlib.Core.Bool.{Bool, true, false, cond, _&&_, _||_, or-false}
 use mathlib.Core.List.{List}
 use mathlib.Core.Option.{none, some}
-use mathlib.Core.Path.{_≡_, _∙_, refl, ap}
+use mathlib.Core.Path.{_≡_, _∙_, refl, sym, ap}
 use lib.Dec.{eqb, ltb}
-use lib.ListN.{length, getD, set}
+use lib.ListN.{length, length-replicate, getD, set}
 use lib.Seq.{getD-set-same, getD-set-other}
-use borrow.Author.Tests.{lt-ltb, le-ltb, eq-eqb, ne-eqb}
+use borrow.Author.Tests.{eqb-true, lt-ltb, le-ltb, eq-eqb, ne-eqb}
 use Rattle.base.proofs.logic.Laws.{or-right}
 use Rattle.base.proofs.Fold.{up-same}
 use Rattle.parts.specs.declared.part.Geometry.{Geometry}
 use Rattle.parts.specs.Part.{Sound}
 use Rattle.regions.specs.Page.{pageOf, placeOf, nextInPage}
 use Rattle.regions.proofs.page.Laws.{place-below, next-place}
-use Rattle.load.specs.declared.Load.{Load}
 use Rattle.load.specs.declared.Span.{Span}
-use Rattle.load.specs.Span.{dropped, grown, covers, insidePage, runsOn}
-use Rattle.load.specs.Load.{emptied, put, isLoaded, storeByte, storePage}
+use Rattle.load.specs.Span.{isEmpty, dropped, grown, covers, insidePage, runsOn}
+use Rattle.load.specs.Load.{Load, noValues, grownAt, emptied, withByte, isLoaded, storeByte, storePage}
 use Rattle.load.specs.Choice.{Choice, nothing, one, over, overlay, spanned, choiceOf, byteOr, layByte, laid}
 use Rattle.load.proofs.Spanning.{dropped-inside, covers-none, grown-inside, covers-grown, grown-runs-on}
 use Rattle.load.proofs.Laying.{laid-length, laid-elsewhere, laid-at}
 
 -- a span inside its page, and values
 module _ (g : Geometry) (span : Span) (values : List ℕ) (inside : insidePage (g .page) span ≡ true) where
-  -- dropped, the choice is nothing
-  pub dropped-nothing : spanned g (dropped span) values ≡ nothing
-  dropped-nothing = λ j place. none-at place (ltb place (g .page)) j
+  -- an empty one chooses nothing
+  pub spans-nothing : isEmpty span ≡ true → spanned g span values ≡ nothing
+  spans-nothing empty = λ j place. none-at place (ltb place (g .page)) j
     where
-      none-at : (place : ℕ) (on-page : Bool) → cond (on-page && covers (g .page) (dropped span) place) (some (getD values place 0)) none ≡ none
-      none-at place true = rw (covers-none (g .page) (dropped span) (dropped-inside (g .page) span inside) refl place)
+      none-at : (place : ℕ) (on-page : Bool) → cond (on-page && covers (g .page) span place) (some (getD values place 0)) none ≡ none
+      none-at place true = rw (covers-none (g .page) span inside (eqb-true _ _ empty) place)
       none-at place false = refl
 
   -- a byte that runs on is overlaid, whatever is loaded at its place
@@ -67,19 +66,32 @@ module _ (g : Geometry) (span : Span) (values : List ℕ) (inside : insidePage (
 
 module _ (g : Geometry) (load : Load) (inside : insidePage (g .page) (load .span) ≡ true) where
   pub emptied-nothing : choiceOf g (emptied load) ≡ nothing
-  emptied-nothing = dropped-nothing g (load .span) (load .values) inside
+  emptied-nothing = spans-nothing g (dropped (load .span)) (load .values) (dropped-inside (g .page) (load .span) inside) refl
 
   pub put-overlays : Sound g → g .page ≤ length (load .values) → (at value : ℕ) → runsOn (g .page) (load .span) (placeOf g at) ≡ true
-      → choiceOf g (put g at value load) ≡ overlay (choiceOf g load) (one (placeOf g at) value)
-  put-overlays = grown-overlays g (load .span) (load .values) inside
+      → choiceOf g (withByte g at value load) ≡ overlay (choiceOf g load) (one (placeOf g at) value)
+  put-overlays sound long at value runs =
+      grown-overlays g (load .span) begun inside sound (begun-long (isEmpty (load .span))) at value runs ∙ ap (λ (choice : Choice). overlay choice (one (placeOf g at) value)) (begun-same (isEmpty (load .span)) refl)
+    where
+      -- the values that the byte finds: of an empty load none are seen
+      begun : List ℕ
+      begun = cond (isEmpty (load .span)) noValues (load .values)
 
-  -- and wherever a byte ran on, the byte for the next address of its page does again
-  module _ (sound : Sound g) (at value : ℕ) where
-    pub put-inside : insidePage (g .page) (put g at value load .span) ≡ true
-    put-inside = grown-inside (g .page) (load .span) (placeOf g at) (place-below g sound at) inside
+      begun-long : (empty : Bool) → g .page ≤ length (cond empty noValues (load .values))
+      begun-long true = rw (length-replicate {A = ℕ} 256 0) (sound .page-most)
+      begun-long false = long
 
-    pub put-runs-on : runsOn (g .page) (load .span) (placeOf g at) ≡ true → runsOn (g .page) (put g at value load .span) (placeOf g (nextInPage g at)) ≡ true
-    put-runs-on runs = rw (next-place g sound at) (grown-runs-on (g .page) (load .span) (placeOf g at) (place-below g sound at) inside runs)
+      begun-same : (empty : Bool) → isEmpty (load .span) ≡ empty → spanned g (load .span) (cond empty noValues (load .values)) ≡ choiceOf g load
+      begun-same true is = spans-nothing g (load .span) noValues inside is ∙ sym (spans-nothing g (load .span) (load .values) inside is)
+      begun-same false is = refl
+
+-- and wherever a byte ran on, the byte for the next address of its page does again
+module _ (g : Geometry) (span : Span) (inside : insidePage (g .page) span ≡ true) (sound : Sound g) (at : ℕ) where
+  pub put-inside : insidePage (g .page) (grownAt g at span) ≡ true
+  put-inside = grown-inside (g .page) span (placeOf g at) (place-below g sound at) inside
+
+  pub put-runs-on : runsOn (g .page) span (placeOf g at) ≡ true → runsOn (g .page) (grownAt g at span) (placeOf g (nextInPage g at)) ≡ true
+  put-runs-on runs = rw (next-place g sound at) (grown-runs-on (g .page) span (placeOf g at) (place-below g sound at) inside runs)
 
 -- what a page store leaves is what was loaded, laid on the page of the address
 pub stored-laid : (g : Geometry) (at : ℕ) (load : Load) (store : List ℕ) → storePage g at load store ≡ laid g (pageOf g at * g .page) (choiceOf g load) store

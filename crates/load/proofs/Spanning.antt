@@ -7,7 +7,7 @@ use mathlib.Core.Bool.{Bool, true, false, cond, _||_}
 use mathlib.Core.Path.{_≡_, _∙_, sym, ap}
 use lib.Dec.{eqb, ltb, leb}
 use borrow.Author.Tests.{ltb-true, leb-true, eqb-true, lt-ltb, le-ltb, le-leb, lt-leb, eq-eqb, ne-eqb}
-use Rattle.base.proofs.logic.Laws.{and-left, and-right, and-both, or-left, or-right}
+use Rattle.base.proofs.logic.Laws.{and-left, and-right, and-both, or-left, or-right, either}
 use Rattle.base.proofs.number.Laws.{least-first, least-second, least-most}
 use Rattle.regions.specs.Page.{nextIn}
 use Rattle.load.specs.declared.Span.{Span}
@@ -182,3 +182,10 @@ module _ (page : ℕ) (span : Span) (place : ℕ) where
         go : Dec (page ≤ next .count) → (leb page (next .count) || eqb (metAt page next (nextIn page place)) (next .first + next .count)) ≡ true
         go (yes p) = or-left (leb page (next .count)) _ (le-leb _ _ p)
         go (no p) = let short : next .count < page = omega arith in or-right (leb page (next .count)) _ (eq-eqb _ _ (follows short (met short)))
+
+-- a span that has grown is not empty: a page has at least one byte
+pub grown-some : (page place : ℕ) (span : Span) → 0 < page → isEmpty (grown page place span) ≡ false
+grown-some page place span some =
+    either (λ (count : ℕ). eqb count 0 ≡ false) (leb (span .count + 1) page) (span .count + 1) page
+    (ne-eqb (span .count + 1) 0 (λ is. omega (arith, is)))
+    (ne-eqb page 0 (λ is. omega (arith, is)))

@@ -9,8 +9,8 @@ use lib.ListN.{set, getD}
 use Rattle.base.specs.Fold.{upTo}
 use Rattle.parts.specs.declared.part.Geometry.{Geometry}
 use Rattle.load.specs.declared.Span.{Span}
-use Rattle.load.specs.declared.Load.{Load}
 use Rattle.load.specs.Span.{covers}
+use Rattle.load.specs.Load.{Load}
 
 abbrev pub Choice : Type 0
 Choice = ℕ → Option ℕ

@@ -1,5 +1,5 @@
-// A page load: which places of a page are loaded, a value for each byte of a page, and how a Stop stores the loaded ones (paper, "Data" and
-// "Stop"; request E10).
+// A page load: which places of a page are loaded, and how a Stop stores their values (paper, "Data" and "Stop"; request E10). The values are
+// lent: at most one chip of a line is loading, so the line has room for one page.
 use parts::part::geometry_of;
 use regions::page::page_of;
 use regions::page::place_of;
@@ -7,8 +7,8 @@ ghost use mathlib.Core.Path.{_≡_};
 ghost use Prim.Native.Nat.{_≤_, _<_};
 ghost use Rattle.parts.specs.Part.{geometryOf};
 ghost use Rattle.regions.specs.Page.{placeOf};
-ghost use Rattle.load.specs.Span.{isEmpty, grown, metAt, covers, insidePage, runsOn};
-ghost use Rattle.load.specs.Load.{empty, emptied, put, holds, storeByte, storePage};
+ghost use Rattle.load.specs.Span.{emptySpan, isEmpty, dropped, grown, metAt, covers, insidePage, runsOn};
+ghost use Rattle.load.specs.Load.{loadOf, put, storeByte, storePage};
 
 // The bytes of the largest page.
 pub const PAGE_MOST: usize = 256;
@@ -19,12 +19,21 @@ pub struct Span {
     pub count: u16,
 }
 
-pub struct Load {
-    pub span: Span,
-    pub values: [u8; PAGE_MOST],
-}
-
 impl Span {
+    pub fn empty() -> Span
+        ensures { λ r. ⌜ r ≡ emptySpan ⌝ }
+    {
+        Span { first: 0, count: 0 }
+    }
+
+    // Nothing is loaded any more. The first place stays, so that a chip at rest whose load is dropped is the same chip.
+    pub fn dropped(self) -> Span
+        ensures { λ r. ⌜ r ≡ dropped self ⌝ }
+    {
+        let first = self.first;
+        Span { first, count: 0 }
+    }
+
     pub fn is_empty(self) -> bool
         ensures { λ r. ⌜ r ≡ isEmpty self ⌝ }
     {
@@ -92,72 +101,30 @@ impl Span {
             base::logic::or(page <= self.count as u32, follows),
         )
     }
-}
 
-impl Load {
-    pub fn empty() -> Load
-        ensures { λ r. ⌜ r ≡ empty ⌝ }
-    {
-        Load {
-            span: Span { first: 0, count: 0 },
-            values: [0; PAGE_MOST],
-        }
-    }
-
-    // Nothing is loaded any more. Values that are not loaded are never read, and stay; so does the first place, so that a chip at rest whose
-    // load is dropped is the same chip.
-    pub fn emptied(self) -> Load
-        ensures { λ r. ⌜ r ≡ emptied self ⌝ }
-    {
-        let span = self.span;
-        let values = self.values;
-        Load {
-            span: Span {
-                first: span.first,
-                count: 0,
-            },
-            values,
-        }
-    }
-
-    // A byte more, with its value at the place of an address in its page.
-    pub fn put(self, part: u8, at: u32, value: u8) -> Load
-        ensures { λ r. ⌜ r ≡ put (geometryOf part) at value self ⌝ }
+    // A byte more, with its value at the place of an address in its page. The first byte clears what an earlier load has left.
+    pub fn put(self, part: u8, at: u32, value: u8, values: &mut [u8; PAGE_MOST]) -> Span
+        ensures { λ r. ⌜ (r, now (values .exit)) ≡ put (geometryOf part) at value self (now (values .entry)) ⌝ }
     {
         let page = geometry_of(part).page;
         let place = place_of(part, at);
-        let span = self.span;
-        let mut values = self.values;
-        values[place as usize] = value;
-        Load {
-            span: span.grown(page, place),
-            values,
+        let begins = self.is_empty();
+        if begins {
+            *values = [0; PAGE_MOST];
         }
-    }
-
-    // Whether at least one byte is loaded, whatever the part's page.
-    pub fn holds(self, part: u8) -> bool
-        ensures { λ r. ⌜ r ≡ holds (geometryOf part) self ⌝ }
-    {
-        let span = self.span;
-        !span.is_empty()
+        values[place as usize] = value;
+        self.grown(page, place)
     }
 
     // The loaded bytes go to their places in the page that an address lies in; the page's others stay.
-    pub fn store_page(self, part: u8, at: u32, share: &mut [u8])
-        ensures { λ _. ⌜ now (share .exit) ≡ storePage (geometryOf part) at self (now (share .entry)) ⌝ }
+    pub fn store_page(self, part: u8, at: u32, values: &[u8; PAGE_MOST], share: &mut [u8])
+        ensures { λ _. ⌜ now (share .exit) ≡ storePage (geometryOf part) at (loadOf self (now (values .entry))) (now (share .entry)) ⌝ }
     {
         let size = geometry_of(part).page;
         let first = page_of(part, at) * size;
-        let span = self.span;
         let mut i: u32 = 0;
         while i < size {
-            store_byte(
-                span.covers(size, i),
-                first + i,
-                self.values[i as usize],
-                share,
-            );
+            store_byte(self.covers(size, i), first + i, values[i as usize], share);
             i += 1;
         }
     }

@@ -8,9 +8,9 @@ use Rattle.base.specs.Fold.{upTo}
 use Rattle.parts.specs.declared.part.Geometry.{Geometry}
 use Rattle.parts.specs.Part.{geometryOf}
 use Rattle.regions.specs.Page.{placeOf, nextInPage, inIdPage}
-use Rattle.load.specs.declared.Load.{Load}
-use Rattle.load.specs.Span.{insidePage, runsOn}
-use Rattle.load.specs.Load.{put, isLoaded}
+use Rattle.load.specs.declared.Span.{Span}
+use Rattle.load.specs.Span.{isEmpty, insidePage, runsOn}
+use Rattle.load.specs.Load.{Load, noValues, withByte, isLoaded}
 use Rattle.control.specs.declared.Control.{Control}
 use Rattle.control.specs.declared.Said.{Said}
 use Rattle.control.specs.declared.phase.Phase.the-variants.{TakesData}
@@ -24,12 +24,12 @@ use Rattle.chip.specs.declared.event.Event.the-variants.{Stop, Sent}
 use Rattle.promises.specs.ChipPlayed.{chipPlayed}
 use Rattle.loads.specs.Marked as marked
 
--- a mark at each place of the page that is loaded, and none past it
+-- a mark at each place of the page that is loaded, and none past it; the values of an empty load are none, as its first byte finds them
 abbrev pub marksOf : Geometry → Load → marked.Load
 marksOf g load =
     record {
       marks = upTo (λ (place : ℕ) (marks : List Bool). set marks place (isLoaded g load place)) (g .page) (replicate 256 false);
-      values = load .values;
+      values = cond (isEmpty (load .span)) noValues (load .values);
     }
 
 -- a load as 10 accepts it where data come at an address: inside its page, and the next byte runs on
@@ -44,18 +44,18 @@ addressAfter g at (byte ∷ bytes) = addressAfter g (nextInPage g at) bytes
 
 abbrev pub loadedFrom : Geometry → ℕ → List ℕ → Load → Load
 loadedFrom g at [] load = load
-loadedFrom g at (byte ∷ bytes) load = loadedFrom g (nextInPage g at) bytes (put g at byte load)
+loadedFrom g at (byte ∷ bytes) load = loadedFrom g (nextInPage g at) bytes (withByte g at byte load)
 
 abbrev pub markedFrom : Geometry → ℕ → List ℕ → marked.Load → marked.Load
 markedFrom g at [] load = load
 markedFrom g at (byte ∷ bytes) load = markedFrom g (nextInPage g at) bytes (marked.put g at byte load)
 
--- a chip that takes data of a kind, some bytes sent to it, and then a Stop
-abbrev pub takes : Data → Control → Load → Chip
-takes kind c load = record { control = inPhase (TakesData kind) c; load = load }
+-- a chip that takes data of a kind, some bytes sent to it, and then a Stop; the values of its load stand beside it
+abbrev pub takes : Data → Control → Span → Chip
+takes kind c span = record { control = inPhase (TakesData kind) c; span = span }
 
-abbrev pub sentAndStopped : List ℕ → Chip → Said → List ℕ → List ℕ → Stepped × List ℕ × List ℕ
-sentAndStopped bytes c said array security = chipPlayed (map Sent bytes ++ (Stop ∷ [])) (record { chip = c; said = said }, array, security)
+abbrev pub sentAndStopped : List ℕ → Chip → List ℕ → Said → List ℕ → List ℕ → Stepped × List ℕ × List ℕ × List ℕ
+sentAndStopped bytes c values said array security = chipPlayed (map Sent bytes ++ (Stop ∷ [])) (record { chip = c; said = said }, array, security, values)
 
 -- its control when the Stop comes
 abbrev pub arrayAfter : List ℕ → Control → Control

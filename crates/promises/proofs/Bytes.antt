@@ -10,13 +10,14 @@ use Rattle.base.proofs.Fold.{up-keeps}
 use Rattle.base.proofs.Every.{every-at, every-so, every-set, every-span, every-patched}
 use Rattle.control.specs.declared.Said.{Said}
 use Rattle.control.specs.declared.Said.the-variants.{Nothing, Ack, Byte}
+use Rattle.chip.specs.declared.Chip.{Chip}
 use Rattle.chip.specs.declared.Stepped as chip
 use Rattle.chip.specs.declared.event.Event.{Event}
 use Rattle.chip.specs.declared.event.Event.the-variants.{Start, Stop, Sent, Read, Wp, CycleOver, PowerUp}
 use Rattle.chip.specs.Chip as one-chip
 use Rattle.chip.proofs.Typed.{ChipTyped}
 use Rattle.promises.specs.ChipBytes.{ChipBytes, SaidByte, EventByte, StepBytes}
-use Rattle.promises.proofs.Keeping.Bytes.{bytes-stay-bytes}
+use Rattle.promises.proofs.Keeping.Bytes.{bytes-stay-bytes, values-stay-bytes}
 use Rattle.promises.proofs.Keeping.Typed.{chip-bytes}
 use Rattle.refusal.specs.declared.Verdict.{Verdict}
 use Rattle.refusal.specs.declared.Verdict.the-variants.{Passed, Refused}
@@ -29,11 +30,12 @@ use Rattle.board.specs.Shares.{figuresAt, arrayStart, securityStart}
 use Rattle.decode.specs.declared.Addressed.{Addressed}
 use Rattle.decode.specs.Decode.{kindOf, addressedOf, reaches, eventOf}
 use Rattle.lineup.specs.Chips.{noChip, chipAt, placesOf}
-use Rattle.line.specs.Line.{arrayShare, securityShare, heard, OnLine, landed, chipTakes, play, unanswered, lineReply}
+use Rattle.line.specs.Line.{arrayShare, securityShare, heard, OnLine, landed, chipTakes, play, chipLoads, valuesAfter, unanswered, lineReply}
 use Rattle.bus.specs.declared.Bus.{Bus}
 use Rattle.bus.specs.declared.Stepped.{Stepped}
 use Rattle.bus.specs.Step.{stepChecks, done, stepBy, played, step}
-use Rattle.bus.proofs.Typed.{OfItsType, every-typed}
+use Rattle.bus.proofs.Entry.{step-by-checks}
+use Rattle.bus.proofs.Typed.{OfItsType, every-typed, values-typed}
 use Rattle.promises.specs.Bytes.{HoldsBytes}
 
 -- an event word brings its low half
@@ -69,8 +71,9 @@ landed-bytes places i world stepped (chips, said, array, security) (next, word, 
   every-patched FitsByte (securityStart places i) (stepped .2) (world .2) share′ security,
 )
 
-takes-bytes : (addressed : Addressed) (places : List Place) → Brings addressed → (i : ℕ) (world : OnLine) → LineBytes world → LineBytes (chipTakes addressed places i world)
-takes-bytes addressed places brought i world now =
+takes-bytes : (addressed : Addressed) (values : List ℕ) (places : List Place) → Brings addressed → AllBytes values → (i : ℕ) (world : OnLine) → LineBytes world
+    → LineBytes (chipTakes addressed values places i world)
+takes-bytes addressed values places brought in-values i world now =
     let c = chipAt (world .0 .chips) i in
     let a = arrayShare places i (world .1) in
     let s = securityShare places i (world .2) in
@@ -78,16 +81,23 @@ takes-bytes addressed places brought i world now =
     let in-array : AllBytes a = every-span FitsByte (arrayStart places i) (figuresAt places i .array) (world .1) (now .2) in
     let in-security : AllBytes s = every-span FitsByte (securityStart places i) (figuresAt places i .security) (world .2) (now .3) in
     either LineBytes (reaches addressed i) _ world
-    (landed-bytes places i world (one-chip.step c a s (eventOf addressed)) now (bytes-stay-bytes c a s in-chip in-array in-security (eventOf addressed) brought))
+    (landed-bytes places i world (one-chip.step c values a s (eventOf addressed)) now (bytes-stay-bytes c values a s in-chip in-values in-array in-security (eventOf addressed) brought))
     now
 
 play-bytes : (addressed : Addressed) (bus : Bus) (array security : List ℕ) → Brings addressed → HoldsBytes bus array security
-    → LineBytes (play addressed (bus .count) (bus .chips) array security)
+    → LineBytes (play addressed (bus .count) (bus .chips) (bus .values) array security)
 unfolding play
 play-bytes addressed bus array security brought now =
-    up-keeps (chipTakes addressed (placesOf (bus .chips))) LineBytes (takes-bytes addressed (placesOf (bus .chips)) brought) (placed (bus .count))
+    up-keeps (chipTakes addressed (bus .values) (placesOf (bus .chips))) LineBytes (takes-bytes addressed (bus .values) (placesOf (bus .chips)) brought (now .in-values)) (placed (bus .count))
     (record { chips = bus .chips; said = Nothing }, array, security)
     (now .in-chips, tt, now .in-array, now .in-security)
+
+pub values-bytes : (addressed : Addressed) (count : ℕ) (chips : List Chip) (values : List ℕ) → Brings addressed → AllBytes values → AllBytes (valuesAfter addressed count chips values)
+unfolding valuesAfter
+values-bytes addressed count chips values brought =
+    up-keeps (chipLoads addressed chips) AllBytes
+    (λ i now held. either AllBytes (reaches addressed i) _ now (values-stay-bytes (chipAt chips i) now held (eventOf addressed) brought) held)
+    (placed count) values
 
 unanswered-byte : (event : Event) → FitsByte (unanswered event)
 unanswered-byte Start = omega arith
@@ -111,27 +121,26 @@ AnswerByte (answer.Refused refusal) = Unit {0}
 abbrev EndsInBytes : Stepped × List ℕ × List ℕ → Type 0
 EndsInBytes next = HoldsBytes (next .0 .bus) (next .1) (next .2) × AnswerByte (next .0 .answer)
 
-done-bytes : (event : Event) (count : ℕ) (world : OnLine) → LineBytes world → EndsInBytes (done event count world)
-done-bytes event count world (chips, said, array, security) =
-    (record { in-chips = chips; in-array = array; in-security = security }, reply-byte event (world .0 .said) said)
+done-bytes : (event : Event) (count : ℕ) (world : OnLine) (values : List ℕ) → LineBytes world → AllBytes values → EndsInBytes (done event count (world, values))
+done-bytes event count world values (chips, said, array, security) in-values =
+    (record { in-chips = chips; in-values = in-values; in-array = array; in-security = security }, reply-byte event (world .0 .said) said)
 
 -- a value of the type `Bus` holds bytes
 pub typed-holds-bytes : (bus : Bus) (array security : List ℕ) → OfItsType bus → AllBytes array → AllBytes security → HoldsBytes bus array security
 typed-holds-bytes bus array security typed in-array in-security =
-    record { in-chips = every-so ChipTyped ChipBytes chip-bytes (bus .chips) (every-typed typed); in-array = in-array; in-security = in-security }
+    record { in-chips = every-so ChipTyped ChipBytes chip-bytes (bus .chips) (every-typed typed); in-values = values-typed typed .bytes; in-array = in-array; in-security = in-security }
 
 module _ (bus : Bus) (array security : List ℕ) (word : ℕ) (now : HoldsBytes bus array security) where
   ends-in-bytes : (verdict : Verdict) → EndsInBytes (stepBy verdict bus array security word)
   unfolding played
   ends-in-bytes Passed =
-      done-bytes (eventOf (addressedOf word)) (bus .count) (play (addressedOf word) (bus .count) (bus .chips) array security)
+      done-bytes (eventOf (addressedOf word)) (bus .count) (play (addressedOf word) (bus .count) (bus .chips) (bus .values) array security) (valuesAfter (addressedOf word) (bus .count) (bus .chips) (bus .values))
       (play-bytes (addressedOf word) bus array security (brings-a-byte word) now)
+      (values-bytes (addressedOf word) (bus .count) (bus .chips) (bus .values) (brings-a-byte word) (now .in-values))
   ends-in-bytes (Refused refusal) = (now, tt)
 
   pub every-step-keeps-bytes : let next = step bus array security word in HoldsBytes (next .0 .bus) (next .1) (next .2)
-  unfolding step
-  every-step-keeps-bytes = ends-in-bytes (firstOf (stepChecks bus array security word)) .0
+  every-step-keeps-bytes = rw (step-by-checks bus array security word) (ends-in-bytes (firstOf (stepChecks bus array security word)) .0)
 
   pub replies-are-bytes : AnswerByte (step bus array security word .0 .answer)
-  unfolding step
-  replies-are-bytes = ends-in-bytes (firstOf (stepChecks bus array security word)) .1
+  replies-are-bytes = rw (step-by-checks bus array security word) (ends-in-bytes (firstOf (stepChecks bus array security word)) .1)

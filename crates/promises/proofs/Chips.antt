@@ -2,19 +2,16 @@
 -- An iteration puts one chip and its two shares in their places and leaves all others, so each chip finds its own as they were.
 use Prim.Native.Nat.{ℕ, zero, suc, _<_, _≤_}
 use native.Mathlib.Omega.{arith}
-use mathlib.Core.Bool.{Bool, true, false, cond}
 use mathlib.Core.List.{List}
 use mathlib.Core.Path.{_≡_, _∙_, refl, ap}
 use lib.ListN.{length}
-use lib.Seq.{set-getD}
 use Rattle.base.specs.Fold.{upTo}
 use Rattle.base.proofs.logic.Laws.{either}
-use Rattle.base.proofs.Cut.{patched-same}
 use Rattle.control.specs.declared.Said.{Said}
 use Rattle.control.specs.declared.Said.the-variants.{Nothing}
 use Rattle.chip.specs.declared.Chip.{Chip}
 use Rattle.chip.specs.declared.Stepped.{Stepped}
-use Rattle.chip.specs.Chip.{quiet, step}
+use Rattle.chip.specs.Chip.{step}
 use Rattle.promises.proofs.Keeping.Lengths.{Long, lengths-kept}
 use Rattle.board.specs.declared.Place.{Place}
 use Rattle.board.specs.Place.{placed}
@@ -25,6 +22,7 @@ use Rattle.decode.specs.Decode.{reaches, eventOf}
 use Rattle.lineup.specs.Chips.{noChip, chipAt, placesOf}
 use Rattle.line.specs.declared.Played.{Played}
 use Rattle.line.specs.Line.{arrayShare, securityShare, heard, landed, chipTakes, play}
+use Rattle.line.proofs.Takes.{takesOn, chip-lands}
 use Rattle.promises.specs.Own.{own, gathered}
 use Rattle.lineup.proofs.Filled.{filled, filled-length, filled-past, filled-at}
 use Rattle.promises.proofs.Filled.{stored, Stored, all-stored}
@@ -32,41 +30,19 @@ use Rattle.promises.proofs.Filled.{stored, Stored, all-stored}
 abbrev World : Type 0
 World = Played × List ℕ × List ℕ
 
--- what chip i makes of an event: `own`, of a chip and two shares
-abbrev taken : Addressed → ℕ → Chip → List ℕ → List ℕ → Stepped × List ℕ × List ℕ
-taken addressed i c array security = cond (reaches addressed i) (step c array security (eventOf addressed)) (quiet c, array, security)
-
-taken-long : (addressed : Addressed) (i : ℕ) (c : Chip) (array security : List ℕ) → Long array security (taken addressed i c array security .1) (taken addressed i c array security .2)
-taken-long addressed i c array security =
+taken-long : (addressed : Addressed) (values : List ℕ) (i : ℕ) (c : Chip) (array security : List ℕ)
+    → let next = takesOn addressed values i c array security in Long array security (next .1) (next .2)
+taken-long addressed values i c array security =
     either (λ (x : Stepped × List ℕ × List ℕ). Long array security (x .1) (x .2)) (reaches addressed i) _ _
-    (lengths-kept c array security (eventOf addressed))
+    (lengths-kept c values array security (eventOf addressed))
     (refl, refl)
 
--- every iteration lands what its chip makes of the event: a chip that is not reached is put back as it is
-module _ (addressed : Addressed) (places : List Place) (i : ℕ) (world : World) where
-  abbrev c : Chip
-  c = chipAt (world .0 .chips) i
-
-  abbrev a : List ℕ
-  a = arrayShare places i (world .1)
-
-  abbrev s : List ℕ
-  s = securityShare places i (world .2)
-
-  chip-lands : chipTakes addressed places i world ≡ landed places i world (taken addressed i c a s)
-  chip-lands = go (reaches addressed i)
-    where
-      go : (reached : Bool) → cond reached (landed places i world (step c a s (eventOf addressed))) world ≡ landed places i world (cond reached (step c a s (eventOf addressed)) (quiet c, a, s))
-      go true = refl
-      go false =
-          rw (set-getD (world .0 .chips) i noChip, patched-same (arrayStart places i) (figuresAt places i .array) (world .1), patched-same (securityStart places i) (figuresAt places i .security) (world .2))
-
-module _ (addressed : Addressed) (count : ℕ) (chips : List Chip) (array security : List ℕ) (four : length chips ≡ 4) (array-fits : length array ≡ arrayStart (placesOf chips) (placed count)) (security-fits : length security ≡ securityStart (placesOf chips) (placed count)) where
+module _ (addressed : Addressed) (count : ℕ) (chips : List Chip) (values array security : List ℕ) (four : length chips ≡ 4) (array-fits : length array ≡ arrayStart (placesOf chips) (placed count)) (security-fits : length security ≡ securityStart (placesOf chips) (placed count)) where
   abbrev places : List Place
   places = placesOf chips
 
   abbrev mine : ℕ → Stepped × List ℕ × List ℕ
-  mine i = own addressed chips array security i
+  mine i = own addressed chips values array security i
 
   abbrev myChip : ℕ → Chip
   myChip i = mine i .0 .chip
@@ -85,10 +61,10 @@ module _ (addressed : Addressed) (count : ℕ) (chips : List Chip) (array securi
 
   -- the exchanges of both stores keep what they should
   array-stored : (n : ℕ) → n ≤ placed count → Stored arraySize myArray array n
-  array-stored = all-stored arraySize myArray array (placed count) array-fits (λ i. taken-long addressed i _ _ _ .0)
+  array-stored = all-stored arraySize myArray array (placed count) array-fits (λ i. taken-long addressed values i _ _ _ .0)
 
   security-stored : (n : ℕ) → n ≤ placed count → Stored securitySize mySecurity security n
-  security-stored = all-stored securitySize mySecurity security (placed count) security-fits (λ i. taken-long addressed i _ _ _ .1)
+  security-stored = all-stored securitySize mySecurity security (placed count) security-fits (λ i. taken-long addressed values i _ _ _ .1)
 
   -- the first n chips have landed, each with its own
   abbrev moved : ℕ → World
@@ -102,7 +78,7 @@ module _ (addressed : Addressed) (count : ℕ) (chips : List Chip) (array securi
   )
 
   -- the next chip and its shares are then as they were
-  finds : (n : ℕ) → n < placed count → taken addressed n (chipAt (moved n .0 .chips) n) (arrayShare places n (moved n .1)) (securityShare places n (moved n .2)) ≡ mine n
+  finds : (n : ℕ) → n < placed count → takesOn addressed values n (chipAt (moved n .0 .chips) n) (arrayShare places n (moved n .1)) (securityShare places n (moved n .2)) ≡ mine n
   finds n below =
       rw (
         filled-past myChip chips n n noChip (omega arith),
@@ -110,25 +86,25 @@ module _ (addressed : Addressed) (count : ℕ) (chips : List Chip) (array securi
         security-stored n (omega arith) .past n (omega arith),
       )
 
-  so-far : (n : ℕ) → n ≤ placed count → upTo (chipTakes addressed places) n (record { chips = chips; said = Nothing }, array, security) ≡ moved n
+  so-far : (n : ℕ) → n ≤ placed count → upTo (chipTakes addressed values places) n (record { chips = chips; said = Nothing }, array, security) ≡ moved n
   unfolding upTo
   so-far zero below = refl
   so-far (suc n) below =
-      ap (chipTakes addressed places n) (so-far n (omega arith))
-      ∙ chip-lands addressed places n (moved n)
+      ap (chipTakes addressed values places n) (so-far n (omega arith))
+      ∙ chip-lands addressed values places n (moved n .0 .chips) (moved n .0 .said) (moved n .1) (moved n .2)
       ∙ ap (landed places n (moved n)) (finds n below)
 
   abbrev after : World
-  after = play addressed count chips array security
+  after = play addressed count chips values array security
 
   all-moved : after ≡ moved (placed count)
   unfolding play
   all-moved = so-far (placed count) (omega arith)
 
   pub each-chip-takes-its-own : (i : ℕ) → i < placed count
-      → (chipAt (after .0 .chips) i ≡ own addressed chips array security i .0 .chip)
-      × (arrayShare (placesOf chips) i (after .1) ≡ own addressed chips array security i .1)
-      × (securityShare (placesOf chips) i (after .2) ≡ own addressed chips array security i .2)
+      → (chipAt (after .0 .chips) i ≡ own addressed chips values array security i .0 .chip)
+      × (arrayShare (placesOf chips) i (after .1) ≡ own addressed chips values array security i .1)
+      × (securityShare (placesOf chips) i (after .2) ≡ own addressed chips values array security i .2)
   each-chip-takes-its-own i below =
       rw all-moved (
         filled-at myChip chips (placed count) i noChip (omega (arith, four, placed-most count)) below,
@@ -139,7 +115,7 @@ module _ (addressed : Addressed) (count : ℕ) (chips : List Chip) (array securi
   pub the-rest-stays : (i : ℕ) → placed count ≤ i → chipAt (after .0 .chips) i ≡ chipAt chips i
   the-rest-stays i past = rw all-moved (filled-past myChip chips (placed count) i noChip past)
 
-  pub answer-is-gathered : after .0 .said ≡ gathered addressed count chips array security
+  pub answer-is-gathered : after .0 .said ≡ gathered addressed count chips values array security
   answer-is-gathered = rw all-moved
 
   pub stores-keep-their-length : (length (after .1) ≡ length array) × (length (after .2) ≡ length security)

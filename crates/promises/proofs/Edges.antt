@@ -9,17 +9,18 @@ use Rattle.base.specs.Word.{wordOf}
 use Rattle.parts.specs.Part.{geometry24CSM01, geometry24CS32, geometryOf}
 use Rattle.regions.specs.Zone.{zoneOf}
 use Rattle.regions.specs.Counter.{counterIn}
-use Rattle.load.specs.Load.{storePage}
+use Rattle.load.specs.Load.{noValues, storePage}
 use Rattle.control.specs.Phase.{isBusy}
 use Rattle.control.specs.Said.{replyOf}
 use Rattle.addressing.specs.Address.{callOf, takeAddress, takeChoice}
-use Rattle.taking.specs.Taking.{take, loaded}
+use Rattle.taking.specs.Taking as taking
+use Rattle.taking.specs.Taking.{take, spanAfter}
 use Rattle.sending.specs.Sending.{read}
 use Rattle.cycle.specs.Stop.{stop}
 use Rattle.chip.specs.declared.Stepped.{Stepped}
 use Rattle.chip.specs.declared.event.Event.{Event}
 use Rattle.chip.specs.declared.event.Event.the-variants.{Start, Stop, Sent, Read, CycleOver}
-use Rattle.chip.specs.Chip.{fresh, quiet, step}
+use Rattle.chip.specs.Chip.{fresh, quiet, step, valuesAfter}
 use Rattle.refusal.specs.Refusal.{statusOf}
 use Rattle.board.specs.declared.Place.{Place}
 use Rattle.board.specs.Place.{nowhere}
@@ -34,8 +35,8 @@ abbrev cs32 : ℕ
 cs32 = 2
 
 -- a 24CS32 at strap 0 that holds 5Ah at 000h, C3h at FFFh, and FFh elsewhere, after some events
-abbrev after : List Event → Stepped × List ℕ × List ℕ
-after events = chipPlayed events (quiet (fresh cs32 0), set (set (replicate 4096 0xFF) 0x000 0x5A) 0xFFF 0xC3, replicate 64 0xFF)
+abbrev after : List Event → Stepped × List ℕ × List ℕ × List ℕ
+after events = chipPlayed events (quiet (fresh cs32 0), set (set (replicate 4096 0xFF) 0x000 0x5A) 0xFFF 0xC3, replicate 64 0xFF, noValues)
 
 -- what it holds at an address of its array
 abbrev holdsAt : ℕ → List Event → ℕ
@@ -61,7 +62,7 @@ configures byte0 byte1 confirmation =
     Start ∷ Sent 0xB0 ∷ Sent 0x88 ∷ Sent 0x00 ∷ Sent byte0 ∷ Sent byte1 ∷ Sent confirmation ∷ Stop ∷ []
 
 -- a register that holds 02h 0Fh is sent 03h FFh, so LOCK 1, with some confirmation; then some events
-abbrev locking : ℕ → List Event → Stepped × List ℕ × List ℕ
+abbrev locking : ℕ → List Event → Stepped × List ℕ × List ℕ × List ℕ
 locking confirmation more = after (configures 0x02 0x0F 0x66 ++ ((CycleOver ∷ []) ++ (configures 0x03 0xFF confirmation ++ more)))
 
 -- the whole register then, byte 0 first; whether a cycle has started; the reply to the next address byte
@@ -76,7 +77,7 @@ nextAddress confirmation = replyOf 0x00 (locking confirmation (Start ∷ Sent 0x
 
 -- the array counter of a 24CSM01 at strap 2 after an address byte and the word address 0000h
 abbrev counterBy : ℕ → ℕ
-counterBy byte = chipPlayed (Start ∷ Sent byte ∷ Sent 0x00 ∷ Sent 0x00 ∷ []) (quiet (fresh m01 2), [], []) .0 .chip .control .arraycounter
+counterBy byte = chipPlayed (Start ∷ Sent byte ∷ Sent 0x00 ∷ Sent 0x00 ∷ []) (quiet (fresh m01 2), [], [], noValues) .0 .chip .control .arraycounter
 
 -- a 24CSM01 and a 24CS32 on one board with stores that fit, and what set-up answers
 abbrev place : ℕ → ℕ → Place
@@ -130,5 +131,5 @@ edges =
     ∷ []
 
 pub edges-hold : map (λ (edge : ℕ × ℕ). edge .0) edges ≡ map (λ (edge : ℕ × ℕ). edge .1) edges
-unfolding edges step take loaded takeAddress takeChoice callOf geometryOf read stop storePage upTo setUp
+unfolding edges step valuesAfter take spanAfter taking.valuesAfter takeAddress takeChoice callOf geometryOf read stop storePage upTo setUp
 edges-hold = refl

@@ -14,6 +14,7 @@ use Rattle.bus.specs.declared.Bus.{Bus}
 use Rattle.bus.specs.Setup.{setUpChecks, setUpBy, setUp}
 use Rattle.bus.specs.Step.{stepChecks, played, stepBy, step}
 use Rattle.bus.specs.Run.{runChecks, runBy, run}
+use Rattle.bus.proofs.Entry.{step-by-checks}
 
 module _ (count : ℕ) (places : List Place) (array security : List ℕ) where
   abbrev atSetUp : Checks
@@ -39,8 +40,8 @@ module _ (bus : Bus) (array security : List ℕ) (word : ℕ) where
   atStep = stepChecks bus array security word
 
   pub step-says : statusIn (step bus array security word .0 .answer) ≡ statusOf (firstOf atStep)
-  unfolding step played
-  step-says = go (firstOf atStep)
+  unfolding played
+  step-says = rw (step-by-checks bus array security word) (go (firstOf atStep))
     where
       go : (verdict : Verdict) → statusIn (stepBy verdict bus array security word .0 .answer) ≡ statusOf verdict
       go Passed = refl

@@ -20,13 +20,15 @@ use Rattle.control.specs.Phase.{isSending, isTaking}
 use Rattle.control.specs.Control.{inPhase}
 use Rattle.control.specs.Said.{replyOf}
 use Rattle.addressing.specs.Address.{callOf, takeAddress, takeChoice}
-use Rattle.taking.specs.Taking.{take, loaded}
+use Rattle.load.specs.Load.{noValues}
+use Rattle.taking.specs.Taking as taking
+use Rattle.taking.specs.Taking.{take, spanAfter}
 use Rattle.sending.specs.Sending.{read}
 use Rattle.chip.specs.declared.Chip.{Chip}
 use Rattle.chip.specs.declared.Stepped.{Stepped}
 use Rattle.chip.specs.declared.event.Event.{Event}
 use Rattle.chip.specs.declared.event.Event.the-variants.{Start, Sent, Read}
-use Rattle.chip.specs.Chip.{fresh, quiet, step}
+use Rattle.chip.specs.Chip.{fresh, quiet, step, valuesAfter}
 use Rattle.wellformed.specs.Beside.{sideBySide}
 use Rattle.refusal.specs.declared.Verdict.the-variants.{Passed}
 use Rattle.refusal.specs.Refusal.{answerWord}
@@ -54,52 +56,55 @@ use Rattle.promises.proofs.Replies.{the-sender-is-heard}
 
 -- a chip that has sent n ID bytes and goes on
 abbrev identifies : Chip → ℕ → Chip
-identifies c n = record { control = inPhase (SendsByte (FromId (n % 3))) (c .control); load = c .load }
+identifies c n = record { control = inPhase (SendsByte (FromId (n % 3))) (c .control); span = c .span }
 
-module _ (c : Chip) (array security : List ℕ) where
-  asked-identifies : IsAsked (c .control) → step c array security (Sent 0xF9) ≡ (record { chip = identifies c 0; said = Ack }, array, security)
-  unfolding step take loaded takeAddress callOf
+module _ (c : Chip) (values array security : List ℕ) where
+  asked-identifies : IsAsked (c .control) → step c values array security (Sent 0xF9) ≡ (record { chip = identifies c 0; said = Ack }, array, security)
+  unfolding step take spanAfter takeAddress callOf
   asked-identifies asked = rw (asked .awaits, asked .chosen)
 
-  sends-round : (n : ℕ) (nack : Bool) → step (identifies c n) array security (Read nack) .0 .said ≡ Byte (roundByte (c .control) n)
+  sends-round : (n : ℕ) (nack : Bool) → step (identifies c n) values array security (Read nack) .0 .said ≡ Byte (roundByte (c .control) n)
   unfolding step read
   sends-round n nack = refl
 
   goes-on : (n : ℕ)
-      → step (identifies c n) array security (Read false) ≡ (record { chip = identifies c (n + 1); said = Byte (roundByte (c .control) n) }, array, security)
+      → step (identifies c n) values array security (Read false) ≡ (record { chip = identifies c (n + 1); said = Byte (roundByte (c .control) n) }, array, security)
   unfolding step read
   goes-on n = rw (next-of-mod 3 n (omega arith))
 
-  abbrev Sends : ℕ → Stepped × List ℕ × List ℕ → Type 0
+  abbrev Sends : ℕ → Stepped × List ℕ × List ℕ × List ℕ → Type 0
   Sends n at = (at .0 .chip ≡ identifies c n) × (at .1 ≡ array) × (at .2 ≡ security)
 
-  -- n bytes more
-  goes-round : (n from to : ℕ) → from + n ≡ to → (said : Said)
-      → Sends to (chipPlayed (replicate n (Read false)) (record { chip = identifies c from; said = said }, array, security))
-  goes-round zero from to is said = (ap (identifies c) (omega (arith, is)), refl, refl)
-  goes-round (suc n) from to is said =
-      subst (λ (at : Stepped × List ℕ × List ℕ). Sends to (chipPlayed (replicate n (Read false)) at)) (sym (goes-on from))
-      (goes-round n (from + 1) to (omega (arith, is)) (Byte (roundByte (c .control) from)))
+-- n bytes more, whatever the values
+goes-round : (c : Chip) (array security : List ℕ) (n from to : ℕ) → from + n ≡ to → (said : Said) (values : List ℕ)
+    → Sends c values array security to (chipPlayed (replicate n (Read false)) (record { chip = identifies c from; said = said }, array, security, values))
+goes-round c array security zero from to is said values = (ap (identifies c) (omega (arith, is)), refl, refl)
+goes-round c array security (suc n) from to is said values =
+    subst (λ (x : Stepped × List ℕ × List ℕ). Sends c values array security to (chipPlayed (replicate n (Read false)) (x .0, x .1, x .2, valuesAfter (identifies c from) (Read false) values)))
+    (sym (goes-on c values array security from))
+    (goes-round c array security n (from + 1) to (omega (arith, is)) (Byte (roundByte (c .control) from)) (valuesAfter (identifies c from) (Read false) values))
 
-  pub id-goes-round : IsAsked (c .control) → (n : ℕ) (nack : Bool)
-      → let at = chipPlayed (idEvents n) (quiet c, array, security) in
-      step (at .0 .chip) (at .1) (at .2) (Read nack) .0 .said ≡ Byte (roundByte (c .control) n)
-  id-goes-round asked n nack =
-      let (there, same-array, same-security) =
-      subst (λ (at : Stepped × List ℕ × List ℕ). Sends n (chipPlayed (replicate n (Read false)) at)) (sym (asked-identifies asked))
-      (goes-round n 0 n (omega arith) Ack) in
-      rw (there, same-array, same-security) (sends-round n nack)
+pub id-goes-round : (c : Chip) (values array security : List ℕ) → IsAsked (c .control) → (n : ℕ) (nack : Bool)
+    → let at = chipPlayed (idEvents n) (quiet c, array, security, values) in
+    step (at .0 .chip) (at .3) (at .1) (at .2) (Read nack) .0 .said ≡ Byte (roundByte (c .control) n)
+id-goes-round c values array security asked n nack =
+    let then = valuesAfter c (Sent 0xF9) values in
+    let at = chipPlayed (idEvents n) (quiet c, array, security, values) in
+    let (there, same-array, same-security) =
+    subst (λ (x : Stepped × List ℕ × List ℕ). Sends c values array security n (chipPlayed (replicate n (Read false)) (x .0, x .1, x .2, then))) (sym (asked-identifies c values array security asked))
+    (goes-round c array security n 0 n (omega arith) Ack then) in
+    rw (there, same-array, same-security) (sends-round c (at .3) array security n nack)
 
 -- seven bytes, computed from a fresh chip on: F8h, its address, Start, F9h, and n bytes before the one that is looked at
 abbrev idRead : ℕ → ℕ → ℕ
 idRead part n =
     replyOf 0xFF
-    (chipPlayed ((Start ∷ Sent 0xF8 ∷ Sent 0xA0 ∷ Start ∷ []) ++ (idEvents n ++ (Read true ∷ []))) (quiet (fresh part 0), [], []) .0 .said)
+    (chipPlayed ((Start ∷ Sent 0xF8 ∷ Sent 0xA0 ∷ Start ∷ []) ++ (idEvents n ++ (Read true ∷ []))) (quiet (fresh part 0), [], [], noValues) .0 .said)
 
 pub seven-id-bytes :
     map (idRead 1) (0 ∷ 1 ∷ 2 ∷ 3 ∷ 4 ∷ 5 ∷ 6 ∷ []) ++ map (idRead 2) (0 ∷ 1 ∷ 2 ∷ 3 ∷ 4 ∷ 5 ∷ 6 ∷ [])
     ≡ (0x00 ∷ 0xD0 ∷ 0xD0 ∷ 0x00 ∷ 0xD0 ∷ 0xD0 ∷ 0x00 ∷ []) ++ (0x00 ∷ 0xD0 ∷ 0xA8 ∷ 0x00 ∷ 0xD0 ∷ 0xA8 ∷ 0x00 ∷ [])
-unfolding step take loaded takeAddress takeChoice callOf geometryOf read
+unfolding step valuesAfter take spanAfter taking.valuesAfter takeAddress takeChoice callOf geometryOf read
 seven-id-bytes = refl
 
 -- a line that passes the checks at entry, and one of its chips
@@ -150,7 +155,7 @@ module _ (world : World) (typed : OfItsType (busOf world)) (enters : firstOf (en
     unfolding addressedOf
     f9-taken =
         step-is-each-chips-own (busOf world) (arrayOf world) (securityOf world) (wordOf 3 0xF9) typed f9-passes k below .0
-        ∙ ap (λ (at : Stepped × List ℕ × List ℕ). at .0 .chip) (asked-identifies (chipAt chips k) _ _ asked)
+        ∙ ap (λ (at : Stepped × List ℕ × List ℕ). at .0 .chip) (asked-identifies (chipAt chips k) _ _ _ asked)
 
   -- a byte read, where the chip sends its ID: no other takes
   module _ (c : Chip) (n : ℕ) (sends : chipAt chips k ≡ identifies c n) (nack : Bool) where
@@ -179,7 +184,7 @@ module _ (world : World) (typed : OfItsType (busOf world)) (enters : firstOf (en
         (λ j before differ. no-other-takes (controlAt chips k) (controlAt chips j) (others-beside j before differ) is-sending)
         (ap (λ (d : Chip). isTaking (d .control .phase)) sends)
 
-    read-taken : chipAt (afterOne bus.step world (readWord nack) .0 .chips) k ≡ step (identifies c n) array security (Read nack) .0 .chip
+    read-taken : chipAt (afterOne bus.step world (readWord nack) .0 .chips) k ≡ step (identifies c n) (busOf world .values) array security (Read nack) .0 .chip
     read-taken =
         step-is-each-chips-own (busOf world) (arrayOf world) (securityOf world) (readWord nack) typed read-passes k below .0 ∙ rw (asks, sends)
 
@@ -188,9 +193,9 @@ module _ (world : World) (typed : OfItsType (busOf world)) (enters : firstOf (en
         ap answerWord (step-answers-for-all (busOf world) (arrayOf world) (securityOf world) (readWord nack) typed read-passes)
         ∙ rw (
           asks,
-          the-sender-is-heard nack count chips (arrayOf world) (securityOf world) k (entry .formed) here is-sending,
+          the-sender-is-heard nack count chips (busOf world .values) (arrayOf world) (securityOf world) k (entry .formed) here is-sending,
           sends,
-          sends-round c array security n nack,
+          sends-round c (busOf world .values) array security n nack,
         )
 
 -- a line on which chip k has sent n ID bytes and goes on
@@ -218,7 +223,7 @@ reads-on c k (suc m) from to is now i =
     reads-on c k m (from + 1) to (omega (arith, is)) (afterOne bus.step now (readWord false))
     (after-word now (readWord false) c k (from + 1) (i .typed) (i .enters) (i .below)
     (read-taken now (i .typed) (i .enters) k (i .below) c from (i .sends) false
-    ∙ ap (λ (at : Stepped × List ℕ × List ℕ). at .0 .chip) (goes-on c _ _ from)))
+    ∙ ap (λ (at : Stepped × List ℕ × List ℕ). at .0 .chip) (goes-on c _ _ _ from)))
 
 pub id-goes-round-on-the-line : (world : World) → OfItsType (busOf world)
     → firstOf (entryChecks (busOf world) (arrayOf world) (securityOf world)) ≡ Passed

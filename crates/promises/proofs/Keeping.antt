@@ -12,5 +12,6 @@ pub mod Readonly
 pub mod Registers
 pub mod Beside
 pub mod Loads
+pub mod Values
 pub mod Bytes
 pub mod Typed

@@ -9,7 +9,7 @@ use mathlib.Core.Path.{_≡_, _∙_, refl, sym, ap, subst}
 use lib.Dec.{eqb}
 use lib.ListN.{length, set, replicate}
 use Rattle.base.proofs.logic.Laws.{either}
-use Rattle.base.proofs.Fold.{up-same, any-pair-none}
+use Rattle.base.proofs.Fold.{up-same, up-keeps, any-pair-none}
 use Rattle.base.proofs.Every.{every-of}
 use Rattle.chip.specs.declared.Chip.{Chip}
 use Rattle.chip.specs.declared.Stepped.{Stepped}
@@ -19,7 +19,7 @@ use Rattle.wellformed.specs.Wellformed as alone
 use Rattle.wellformed.specs.Beside.{sideBySide}
 use Rattle.promises.proofs.Keeping.Wellformed.{kept}
 use Rattle.promises.proofs.Keeping.Registers.{part-kept, strap-kept}
-use Rattle.promises.proofs.Keeping.Typed.{chip-typed-kept}
+use Rattle.promises.proofs.Keeping.Typed.{chip-typed-kept, values-long-kept}
 use Rattle.promises.proofs.Keeping.Beside.{isNamed, named-kept, side-by-side-kept, beside-sym}
 use Rattle.refusal.specs.declared.Verdict.{Verdict}
 use Rattle.refusal.specs.declared.Verdict.the-variants.{Passed, Refused}
@@ -35,13 +35,13 @@ use Rattle.lineup.proofs.Laws.{place-at}
 use Rattle.lineup.specs.Chips.{noChip, chipAt, controlAt, placeOf, placesOf}
 use Rattle.lineup.specs.Wellformed.{wellFormed}
 use Rattle.line.specs.declared.Played.{Played}
-use Rattle.line.specs.Line.{play}
+use Rattle.line.specs.Line.{play, chipLoads, valuesAfter}
 use Rattle.bus.specs.declared.Bus.{Bus}
 use Rattle.bus.specs.Step.{entryChecks, eventChecks, stepBy, played, event}
-use Rattle.bus.proofs.Typed.{OfItsType, count-fits, has-four, bus-typed, chip-typed}
+use Rattle.bus.proofs.Typed.{OfItsType, count-fits, has-four, values-typed, bus-typed, chip-typed}
 use Rattle.promises.specs.Own.{own}
 use Rattle.promises.specs.Playing.{Made}
-use Rattle.promises.proofs.Bytes.{Brings, brings-a-byte}
+use Rattle.promises.proofs.Bytes.{Brings, brings-a-byte, values-bytes}
 use Rattle.promises.proofs.Chips.{each-chip-takes-its-own, the-rest-stays, stores-keep-their-length, chips-stay-four}
 use Rattle.promises.proofs.Formed.{none-holds, Formed, formed-of, of-formed, EntryHolds, entry-of, of-entry}
 
@@ -61,30 +61,30 @@ addressed-fair word =
     (either Fair (eqb (kindOf word) 6) _ _ refl
     (either Fair (eqb (kindOf word) 7) _ _ refl tt))))))
 
-module _ (addressed : Addressed) (count : ℕ) (chips : List Chip) (array security : List ℕ) (four : length chips ≡ 4) (array-fits : length array ≡ arrayStart (placesOf chips) (placed count)) (security-fits : length security ≡ securityStart (placesOf chips) (placed count)) where
+module _ (addressed : Addressed) (count : ℕ) (chips : List Chip) (values array security : List ℕ) (four : length chips ≡ 4) (array-fits : length array ≡ arrayStart (placesOf chips) (placed count)) (security-fits : length security ≡ securityStart (placesOf chips) (placed count)) where
   abbrev world : Played × List ℕ × List ℕ
-  world = play addressed count chips array security
+  world = play addressed count chips values array security
 
   abbrev after : List Chip
   after = world .0 .chips
 
   abbrev mine : Addressed → ℕ → Chip
-  mine o i = own o chips array security i .0 .chip
+  mine o i = own o chips values array security i .0 .chip
 
   takes : (i : ℕ) → i < placed count → chipAt after i ≡ mine addressed i
-  takes i below = each-chip-takes-its-own addressed count chips array security four array-fits security-fits i below .0
+  takes i below = each-chip-takes-its-own addressed count chips values array security four array-fits security-fits i below .0
 
   -- no chip changes its part or its strap, and those past the count stay
   own-place : (i : ℕ) → placeOf (mine addressed i .control) ≡ placeOf (controlAt chips i)
   own-place i =
       either (λ (x : Stepped × List ℕ × List ℕ). placeOf (x .0 .chip .control) ≡ placeOf (controlAt chips i)) (reaches addressed i) _ _
-      (rw (part-kept (chipAt chips i) _ _ (eventOf addressed), strap-kept (chipAt chips i) _ _ (eventOf addressed)))
+      (rw (part-kept (chipAt chips i) _ _ _ (eventOf addressed), strap-kept (chipAt chips i) _ _ _ (eventOf addressed)))
       refl
 
   place-kept : (i : ℕ) → Dec (i < placed count) → placeOf (controlAt after i) ≡ placeOf (controlAt chips i)
   place-kept i (yes p) = ap (λ (c : Chip). placeOf (c .control)) (takes i p) ∙ own-place i
   place-kept i (no p) =
-      ap (λ (c : Chip). placeOf (c .control)) (the-rest-stays addressed count chips array security four array-fits security-fits i (omega arith))
+      ap (λ (c : Chip). placeOf (c .control)) (the-rest-stays addressed count chips values array security four array-fits security-fits i (omega arith))
 
   pub places-stay : placesOf after ≡ placesOf chips
   unfolding placesOf
@@ -95,14 +95,14 @@ module _ (addressed : Addressed) (count : ℕ) (chips : List Chip) (array securi
       → sideBySide (mine (ToOne k e) i .control) (d .control) ≡ true
   one-kept k e named i d test =
       either (λ (x : Stepped × List ℕ × List ℕ). sideBySide (x .0 .chip .control) (d .control) ≡ true) (eqb i k) _ _
-      (named-kept (chipAt chips i) d _ _ e named test)
+      (named-kept (chipAt chips i) d _ _ _ e named test)
       test
 
   module _ (formed : Formed count chips) where
     fit-now : (i : ℕ) → i < placed count → alone.wellFormed (mine addressed i) ≡ true
     fit-now i below =
         either (λ (x : Stepped × List ℕ × List ℕ). alone.wellFormed (x .0 .chip) ≡ true) (reaches addressed i) _ _
-        (kept (chipAt chips i) _ _ (eventOf addressed) (formed .fit i below))
+        (kept (chipAt chips i) _ _ _ (eventOf addressed) (formed .fit i below))
         (formed .fit i below)
 
     -- the last of set-up's checks
@@ -115,7 +115,7 @@ module _ (addressed : Addressed) (count : ℕ) (chips : List Chip) (array securi
     -- an event to all moves both chips at once; one that names a chip moves them one after the other
     apart-now : (o : Addressed) → Fair o → (i j : ℕ) → i < placed count → j < i → sideBySide (mine o i .control) (mine o j .control) ≡ true
     apart-now (ToAll e) fair i j below before =
-        side-by-side-kept (chipAt chips i) (chipAt chips j) _ _ _ _ e (formed .fit i below) (formed .fit j (omega arith))
+        side-by-side-kept (chipAt chips i) (chipAt chips j) _ _ _ _ _ _ e (formed .fit i below) (formed .fit j (omega arith))
         (rw (place-at chips i (omega (arith, placed-most count)), place-at chips j (omega (arith, placed-most count))) at (unshared i j below before))
         (formed .apart i j below before)
     apart-now (ToOne k e) fair i j below before =
@@ -132,9 +132,9 @@ module _ (addressed : Addressed) (count : ℕ) (chips : List Chip) (array securi
           apart = λ i j below before. rw (controlAt, takes i below, takes j (omega arith)) (apart-now addressed fair i j below before);
         }
 
-    entry-holds-still : Fair addressed → EntryHolds (record { count = count; chips = after }) (world .1) (world .2)
+    entry-holds-still : Fair addressed → EntryHolds (record { count = count; chips = after; values = valuesAfter addressed count chips values }) (world .1) (world .2)
     entry-holds-still fair =
-        let (array-long, security-long) = stores-keep-their-length addressed count chips array security four array-fits security-fits in
+        let (array-long, security-long) = stores-keep-their-length addressed count chips values array security four array-fits security-fits in
         (of-formed count after (formed-kept fair), rw places-stay (array-long ∙ array-fits), rw places-stay (security-long ∙ security-fits))
 
     -- and a value of its type, where it was one
@@ -145,9 +145,17 @@ module _ (addressed : Addressed) (count : ℕ) (chips : List Chip) (array securi
         go (yes p) =
             subst ChipTyped (sym (takes i p))
             (either (λ (x : Stepped × List ℕ × List ℕ). ChipTyped (x .0 .chip)) (reaches addressed i) _ _
-            (chip-typed-kept (chipAt chips i) _ _ (eventOf addressed) brought (formed .fit i p) (typed i below))
+            (chip-typed-kept (chipAt chips i) _ _ _ (eventOf addressed) brought (formed .fit i p) (typed i below))
             (typed i below))
-        go (no p) = subst ChipTyped (sym (the-rest-stays addressed count chips array security four array-fits security-fits i (omega arith))) (typed i below)
+        go (no p) = subst ChipTyped (sym (the-rest-stays addressed count chips values array security four array-fits security-fits i (omega arith))) (typed i below)
+
+-- and so do the values of the line
+values-long-still : (addressed : Addressed) (count : ℕ) (chips : List Chip) (values : List ℕ) → length values ≡ 256 → length (valuesAfter addressed count chips values) ≡ 256
+unfolding valuesAfter
+values-long-still addressed count chips values =
+    up-keeps (chipLoads addressed chips) (λ (now : List ℕ). length now ≡ 256)
+    (λ i now long. either (λ (next : List ℕ). length next ≡ 256) (reaches addressed i) _ now (values-long-kept (chipAt chips i) now (eventOf addressed) long) long)
+    (placed count) values
 
 -- what an event leaves: a bus that passes the checks at entry, of its type, with the same places and as many chips
 pub record Kept (bus : Bus) (next : Made) : Type 0 where
@@ -168,14 +176,18 @@ event-keeps bus array security word typed passed = go (firstOf (eventChecks bus 
         let next = played addressed bus array security in
         let four = has-four typed in
         let clauses = formed-of (bus .count) (bus .chips) formed in
-        let ready = entry-holds-still addressed (bus .count) (bus .chips) array security four array-fits security-fits clauses (addressed-fair word) in
-        let stays-four = chips-stay-four addressed (bus .count) (bus .chips) array security four array-fits security-fits in
-        let each = typed-now addressed (bus .count) (bus .chips) array security four array-fits security-fits clauses (brings-a-byte word) (chip-typed typed) in
+        let ready = entry-holds-still addressed (bus .count) (bus .chips) (bus .values) array security four array-fits security-fits clauses (addressed-fair word) in
+        let stays-four = chips-stay-four addressed (bus .count) (bus .chips) (bus .values) array security four array-fits security-fits in
+        let each = typed-now addressed (bus .count) (bus .chips) (bus .values) array security four array-fits security-fits clauses (brings-a-byte word) (chip-typed typed) in
         record {
           enters = of-entry (next .0 .bus) (next .1) (next .2) ready;
-          typed = bus-typed (bus .count) (next .0 .bus .chips) (count-fits typed) stays-four
-              (every-of ChipTyped (next .0 .bus .chips) noChip (λ i below. each i (omega (arith, below, stays-four))));
-          places = places-stay addressed (bus .count) (bus .chips) array security four array-fits security-fits;
+          typed = bus-typed (bus .count) (next .0 .bus .chips) (next .0 .bus .values) (count-fits typed) stays-four
+              (every-of ChipTyped (next .0 .bus .chips) noChip (λ i below. each i (omega (arith, below, stays-four))))
+              (record {
+                long = values-long-still addressed (bus .count) (bus .chips) (bus .values) (values-typed typed .long);
+                bytes = values-bytes addressed (bus .count) (bus .chips) (bus .values) (brings-a-byte word) (values-typed typed .bytes);
+              });
+          places = places-stay addressed (bus .count) (bus .chips) (bus .values) array security four array-fits security-fits;
           count = refl;
         }
     go (Refused refusal) = record { enters = passed; typed = typed; places = refl; count = refl }

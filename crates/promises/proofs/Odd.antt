@@ -8,7 +8,8 @@ use mathlib.Core.Path.{_≡_, refl}
 use lib.ListN.{replicate}
 use Rattle.base.specs.Fold.{upTo}
 use Rattle.parts.specs.Part.{geometryOf}
-use Rattle.load.specs.Load as load
+use Rattle.load.specs.Span.{emptySpan}
+use Rattle.load.specs.Load.{noValues}
 use Rattle.control.specs.declared.Control.{Control}
 use Rattle.control.specs.declared.Answered.{Answered}
 use Rattle.control.specs.declared.phase.Phase.the-variants.{AwaitsAddress, AwaitsChoice, TakesData, SendsByte}
@@ -27,11 +28,11 @@ use Rattle.lineup.specs.Chips.{placesOf}
 use Rattle.lineup.specs.Wellformed.{wellFormed}
 use Rattle.line.specs.Line.{play}
 use Rattle.bus.specs.Setup.{emptyChip}
-use Rattle.bus.specs.Step.{played, step}
+use Rattle.bus.specs.Step.{played, event, step}
 use Rattle.promises.specs.Playing.{answerTo}
 
 abbrev withLoad : Control → Chip
-withLoad c = record { control = c; load = load.empty }
+withLoad c = record { control = c; span = emptySpan }
 
 -- two 24CS32 at straps 0 and 1
 abbrev line : (Control → Control) → (Control → Control) → List Chip
@@ -59,10 +60,10 @@ odd-ones-are-well-formed = refl
 -- one sends its ID from a place on, and the host reads: from the last place that is its third byte, from the place past it 10 (request E5)
 abbrev readAt : ℕ → ℕ
 readAt place =
-    answerTo step (record { count = 2; chips = line (inPhase (SendsByte (FromId place))) same }, replicate 8192 0xFF, replicate 128 0xFF) 0x0400
+    answerTo step (record { count = 2; chips = line (inPhase (SendsByte (FromId place))) same; values = noValues }, replicate 8192 0xFF, replicate 128 0xFF) 0x0400
 
 pub past-the-id-is-refused : map readAt (2 ∷ 3 ∷ []) ≡ 0x00A8 ∷ 0x0A00 ∷ []
-unfolding step played play addressedOf wellFormed boardVerdict placesOf upTo alone.wellFormed geometryOf chip.step read
+unfolding step event played play addressedOf wellFormed boardVerdict placesOf upTo alone.wellFormed geometryOf chip.step read
 past-the-id-is-refused = refl
 
 -- the third: the byte after F8h is no address byte, so a choice outlives it, whatever byte it is

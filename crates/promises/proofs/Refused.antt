@@ -15,6 +15,7 @@ use Rattle.bus.specs.declared.Bus.{Bus}
 use Rattle.bus.specs.Setup.{setUpChecks, empty, setUpBy, setUp}
 use Rattle.bus.specs.Step.{stepChecks, refused, played, stepBy, step}
 use Rattle.bus.specs.Run.{runChecks, Progress, runBy, run}
+use Rattle.bus.proofs.Entry.{step-by-checks}
 
 abbrev isDone : Answer → Bool
 isDone (answer.Done reply) = true
@@ -40,8 +41,7 @@ module _ (bus : Bus) (array security : List ℕ) where
 
   pub refused-step-leaves-all : (word : ℕ) (refusal : Refusal) → step bus array security word .0 .answer ≡ answer.Refused refusal
       → step bus array security word ≡ (record { bus = bus; answer = answer.Refused refusal }, array, security)
-  unfolding step
-  refused-step-leaves-all word refusal = refusal-leaves-all word refusal (firstOf (stepChecks bus array security word))
+  refused-step-leaves-all word refusal = rw (step-by-checks bus array security word) (refusal-leaves-all word refusal (firstOf (stepChecks bus array security word)))
 
   pub refused-run-leaves-all : (events answers : List ℕ) (refusal : Refusal) → run bus array security events answers .0 ≡ Refused refusal
       → run bus array security events answers ≡ (Refused refusal, (bus, array, security, answers))

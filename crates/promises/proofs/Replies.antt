@@ -24,7 +24,7 @@ use Rattle.decode.specs.declared.Addressed.the-variants.{ToAll}
 use Rattle.lineup.specs.Chips.{chipAt, controlAt}
 use Rattle.lineup.specs.Wellformed.{wellFormed}
 use Rattle.line.specs.Line.{heard, lineReply}
-use Rattle.line.proofs.Deaf.{deaf-stays}
+use Rattle.line.proofs.Deaf.{read-stays}
 use Rattle.promises.specs.Own.{own, gathered}
 use Rattle.promises.proofs.Formed.{formed-of}
 use Rattle.promises.proofs.Sent.{isByte, sent-no-byte}
@@ -93,18 +93,18 @@ module _ (says : ℕ → Said) where
           let last : n ≡ i = omega arith in
           rw (silent-line n (λ j before. others j (omega arith) (λ (is : j ≡ i). absurd (omega arith))), last) (after-silence (says i))
 
-module _ (byte count : ℕ) (chips : List Chip) (array security : List ℕ) where
+module _ (byte count : ℕ) (chips : List Chip) (values array security : List ℕ) where
   abbrev saysTo : ℕ → Said
-  saysTo i = own (ToAll (Sent byte)) chips array security i .0 .said
+  saysTo i = own (ToAll (Sent byte)) chips values array security i .0 .said
 
   abbrev acks : ℕ → Bool
   acks i = isAck (saysTo i)
 
   abbrev line : Said
-  line = gathered (ToAll (Sent byte)) count chips array security
+  line = gathered (ToAll (Sent byte)) count chips values array security
 
   no-byte : (i : ℕ) → isByte (saysTo i) ≡ false
-  no-byte i = sent-no-byte (chipAt chips i) _ _ byte
+  no-byte i = sent-no-byte (chipAt chips i) _ _ _ byte
 
   line-no-byte : isByte line ≡ false
   line-no-byte = none-carried saysTo no-byte (placed count)
@@ -113,8 +113,8 @@ module _ (byte count : ℕ) (chips : List Chip) (array security : List ℕ) wher
   line-acks = acks-carried saysTo no-byte (placed count)
 
   pub acknowledged-exactly-when :
-      (lineReply (Sent byte) (gathered (ToAll (Sent byte)) count chips array security) ≡ 1)
-      ↔ ((i : ℕ) × ((i < placed count) × (own (ToAll (Sent byte)) chips array security i .0 .said ≡ Ack)))
+      (lineReply (Sent byte) (gathered (ToAll (Sent byte)) count chips values array security) ≡ 1)
+      ↔ ((i : ℕ) × ((i < placed count) × (own (ToAll (Sent byte)) chips values array security i .0 .said ≡ Ack)))
   acknowledged-exactly-when = (to, from)
     where
       to : replyOf 0 line ≡ 1 → (i : ℕ) × ((i < placed count) × (saysTo i ≡ Ack))
@@ -126,8 +126,8 @@ module _ (byte count : ℕ) (chips : List Chip) (array security : List ℕ) wher
       from (i, (below, here)) = rw (is-ack line (line-acks ∙ any-at acks (placed count) i below (ap isAck here)))
 
   pub else-unanswered :
-      (lineReply (Sent byte) (gathered (ToAll (Sent byte)) count chips array security) ≡ 1)
-      ⊎ (lineReply (Sent byte) (gathered (ToAll (Sent byte)) count chips array security) ≡ 0)
+      (lineReply (Sent byte) (gathered (ToAll (Sent byte)) count chips values array security) ≡ 1)
+      ⊎ (lineReply (Sent byte) (gathered (ToAll (Sent byte)) count chips values array security) ≡ 0)
   else-unanswered = go line line-no-byte
     where
       go : (said : Said) → isByte said ≡ false → (replyOf 0 said ≡ 1) ⊎ (replyOf 0 said ≡ 0)
@@ -135,21 +135,21 @@ module _ (byte count : ℕ) (chips : List Chip) (array security : List ℕ) wher
       go Ack other = inl refl
       go (Byte b) other = absurd (true≢false other)
 
-module _ (nack : Bool) (count : ℕ) (chips : List Chip) (array security : List ℕ) where
+module _ (nack : Bool) (count : ℕ) (chips : List Chip) (values array security : List ℕ) where
   abbrev saysBack : ℕ → Said
-  saysBack i = own (ToAll (Read nack)) chips array security i .0 .said
+  saysBack i = own (ToAll (Read nack)) chips values array security i .0 .said
 
   read-silent : (i : ℕ) → isSending (controlAt chips i .phase) ≡ false → saysBack i ≡ Nothing
-  read-silent i deaf = ap (λ (x : Stepped × List ℕ × List ℕ). x .0 .said) (deaf-stays (chipAt chips i) _ _ (Read nack) deaf)
+  read-silent i deaf = ap (λ (x : Stepped × List ℕ × List ℕ). x .0 .said) (read-stays (chipAt chips i) _ _ _ nack deaf)
 
   pub byte-of-the-one-that-sends : (i : ℕ) → i < placed count → isSending (controlAt chips i .phase) ≡ true
       → ((j : ℕ) → j < placed count → (j ≡ i → ⊥) → isSending (controlAt chips j .phase) ≡ false)
-      → gathered (ToAll (Read nack)) count chips array security ≡ own (ToAll (Read nack)) chips array security i .0 .said
+      → gathered (ToAll (Read nack)) count chips values array security ≡ own (ToAll (Read nack)) chips values array security i .0 .said
   byte-of-the-one-that-sends i below sends others =
       one-speaks saysBack (placed count) i below (λ j before differ. read-silent j (others j before differ))
 
   pub nobody-sends : ((i : ℕ) → i < placed count → isSending (controlAt chips i .phase) ≡ false)
-      → lineReply (Read nack) (gathered (ToAll (Read nack)) count chips array security) ≡ 0xFF
+      → lineReply (Read nack) (gathered (ToAll (Read nack)) count chips values array security) ≡ 0xFF
   nobody-sends none = ap (lineReply (Read nack)) (silent-line saysBack (placed count) (λ i below. read-silent i (none i below)))
 
 -- a chip that sends is active, and no two are
@@ -173,11 +173,11 @@ at-most-one-sends count chips i j formed below below′ sends sends′ = go (dec
     go (no p) (no q) = omega arith
 
 -- so on a well-formed line a byte read is that of the chip that sends
-pub the-sender-is-heard : (nack : Bool) (count : ℕ) (chips : List Chip) (array security : List ℕ) (i : ℕ) → wellFormed count chips ≡ true → i < placed count
+pub the-sender-is-heard : (nack : Bool) (count : ℕ) (chips : List Chip) (values array security : List ℕ) (i : ℕ) → wellFormed count chips ≡ true → i < placed count
     → isSending (controlAt chips i .phase) ≡ true
-    → gathered (ToAll (Read nack)) count chips array security ≡ own (ToAll (Read nack)) chips array security i .0 .said
-the-sender-is-heard nack count chips array security i formed below sends =
-    byte-of-the-one-that-sends nack count chips array security i below sends others
+    → gathered (ToAll (Read nack)) count chips values array security ≡ own (ToAll (Read nack)) chips values array security i .0 .said
+the-sender-is-heard nack count chips values array security i formed below sends =
+    byte-of-the-one-that-sends nack count chips values array security i below sends others
   where
     others : (j : ℕ) → j < placed count → (j ≡ i → ⊥) → isSending (controlAt chips j .phase) ≡ false
     others j before differ = go (isSending (controlAt chips j .phase)) refl

@@ -15,9 +15,8 @@ use Rattle.refusal.specs.declared.Verdict.{Verdict}
 use Rattle.refusal.specs.declared.Verdict.the-variants.{Passed, Refused}
 use Rattle.refusal.specs.declared.Refusal.the-variants.{ShortBuffer}
 use Rattle.refusal.specs.Checks.{firstOf, isPassed}
-use Rattle.refusal.proofs.Checks.{passed-first}
 use Rattle.bus.specs.declared.Bus.{Bus}
-use Rattle.bus.specs.Step.{entryChecks, eventChecks, stepBy, event, step}
+use Rattle.bus.specs.Step.{entryChecks, event, stepGiven, step}
 use Rattle.bus.specs.Run.{runChecks, Progress, noted, runEvent, runUpTo, runBy, run}
 use Rattle.bus.proofs.Typed.{OfItsType}
 use Rattle.promises.specs.Playing.{World, after, answersTo}
@@ -31,9 +30,8 @@ stepAt events i progress = noted i (progress .3) (step (progress .0) (progress .
 -- where the checks at entry pass, only those of the event are left
 pub step-is-event : (bus : Bus) (array security : List ℕ) (word : ℕ) → firstOf (entryChecks bus array security) ≡ Passed
     → step bus array security word ≡ event bus array security word
-unfolding step event
-step-is-event bus array security word passed =
-    ap (λ (verdict : Verdict). stepBy verdict bus array security word) (passed-first (entryChecks bus array security) (eventChecks bus word) passed)
+unfolding step
+step-is-event bus array security word passed = ap (λ (verdict : Verdict). stepGiven verdict bus array security word) passed
 
 -- so a step keeps what an event keeps
 pub step-keeps : (bus : Bus) (array security : List ℕ) (word : ℕ) → OfItsType bus → firstOf (entryChecks bus array security) ≡ Passed → Kept bus (step bus array security word)

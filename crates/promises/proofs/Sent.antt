@@ -75,6 +75,6 @@ module _ (c : Control) (byte : ℕ) where
   to-byte (TakesData kind) = to-data kind
   to-byte (SendsByte source) = refl
 
-pub sent-no-byte : (c : Chip) (array security : List ℕ) (byte : ℕ) → isByte (step c array security (Sent byte) .0 .said) ≡ false
+pub sent-no-byte : (c : Chip) (values array security : List ℕ) (byte : ℕ) → isByte (step c values array security (Sent byte) .0 .said) ≡ false
 unfolding step take
-sent-no-byte c array security byte = to-byte (c .control) byte (c .control .phase)
+sent-no-byte c values array security byte = to-byte (c .control) byte (c .control .phase)

@@ -3,7 +3,7 @@
 use Prim.Native.Nat.{ℕ, _<_, _≤_}
 use native.Mathlib.Omega.{arith}
 use mathlib.Core.List.{List}
-use mathlib.Core.Path.{_≡_, ap}
+use mathlib.Core.Path.{_≡_, _∙_, ap}
 use Rattle.refusal.specs.declared.Verdict.{Verdict}
 use Rattle.refusal.specs.declared.Verdict.the-variants.{Passed}
 use Rattle.refusal.specs.declared.Answer.the-variants as answer
@@ -15,7 +15,7 @@ use Rattle.line.specs.Line.{arrayShare, securityShare, lineReply}
 use Rattle.bus.specs.declared.Bus.{Bus}
 use Rattle.bus.specs.declared.Stepped.{Stepped}
 use Rattle.bus.specs.Step.{stepChecks, stepBy, played, step}
-use Rattle.bus.proofs.Entry.{Entered, entered}
+use Rattle.bus.proofs.Entry.{Entered, entered, step-by-checks}
 use Rattle.bus.proofs.Typed.{OfItsType, has-four}
 use Rattle.promises.specs.Own.{own, gathered}
 use Rattle.promises.proofs.Chips.{each-chip-takes-its-own, the-rest-stays, answer-is-gathered}
@@ -34,27 +34,26 @@ module _ (bus : Bus) (array security : List ℕ) (word : ℕ) (typed : OfItsType
       entered bus array security (rw (none .0, none .1 .0))
 
   plays : after ≡ played addressed bus array security
-  unfolding step
-  plays = ap (λ (verdict : Verdict). stepBy verdict bus array security word) passes
+  plays = step-by-checks bus array security word ∙ ap (λ (verdict : Verdict). stepBy verdict bus array security word) passes
 
   pub step-is-each-chips-own : (i : ℕ) → i < bus .count
-      → (chipAt (after .0 .bus .chips) i ≡ own addressed (bus .chips) array security i .0 .chip)
-      × (arrayShare (placesOf (bus .chips)) i (after .1) ≡ own addressed (bus .chips) array security i .1)
-      × (securityShare (placesOf (bus .chips)) i (after .2) ≡ own addressed (bus .chips) array security i .2)
+      → (chipAt (after .0 .bus .chips) i ≡ own addressed (bus .chips) (bus .values) array security i .0 .chip)
+      × (arrayShare (placesOf (bus .chips)) i (after .1) ≡ own addressed (bus .chips) (bus .values) array security i .1)
+      × (securityShare (placesOf (bus .chips)) i (after .2) ≡ own addressed (bus .chips) (bus .values) array security i .2)
   unfolding played
   step-is-each-chips-own i below =
       rw plays
-      (each-chip-takes-its-own addressed (bus .count) (bus .chips) array security (has-four typed) (enters .array-fits) (enters .security-fits) i (omega (arith, enters .all-placed)))
+      (each-chip-takes-its-own addressed (bus .count) (bus .chips) (bus .values) array security (has-four typed) (enters .array-fits) (enters .security-fits) i (omega (arith, enters .all-placed)))
 
   pub step-leaves-the-rest : (i : ℕ) → bus .count ≤ i → chipAt (after .0 .bus .chips) i ≡ chipAt (bus .chips) i
   unfolding played
   step-leaves-the-rest i past =
-      rw plays (the-rest-stays addressed (bus .count) (bus .chips) array security (has-four typed) (enters .array-fits) (enters .security-fits) i (omega (arith, enters .all-placed)))
+      rw plays (the-rest-stays addressed (bus .count) (bus .chips) (bus .values) array security (has-four typed) (enters .array-fits) (enters .security-fits) i (omega (arith, enters .all-placed)))
 
-  pub step-answers-for-all : after .0 .answer ≡ answer.Done (lineReply (eventOf addressed) (gathered addressed (bus .count) (bus .chips) array security))
+  pub step-answers-for-all : after .0 .answer ≡ answer.Done (lineReply (eventOf addressed) (gathered addressed (bus .count) (bus .chips) (bus .values) array security))
   unfolding played
   step-answers-for-all =
-      rw (plays, answer-is-gathered addressed (bus .count) (bus .chips) array security (has-four typed) (enters .array-fits) (enters .security-fits))
+      rw (plays, answer-is-gathered addressed (bus .count) (bus .chips) (bus .values) array security (has-four typed) (enters .array-fits) (enters .security-fits))
 
   pub step-keeps-the-count : after .0 .bus .count ≡ bus .count
   unfolding played

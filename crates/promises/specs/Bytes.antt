@@ -7,5 +7,6 @@ use Rattle.bus.specs.declared.Bus.{Bus}
 
 pub record HoldsBytes (bus : Bus) (array security : List ℕ) : Type 0 where
   pub in-chips : Every ChipBytes (bus .chips)
+  pub in-values : AllBytes (bus .values)
   pub in-array : AllBytes array
   pub in-security : AllBytes security

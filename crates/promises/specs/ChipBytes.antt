@@ -53,9 +53,9 @@ bytesIn (SendsByte source) = []
 abbrev pub ControlBytes : Control → Type 0
 ControlBytes c = AllBytes (c .config0 ∷ c .config1 ∷ bytesIn (c .phase))
 
--- and the load
+-- a chip has no more of them: the values of its load stand on the line
 abbrev pub ChipBytes : Chip → Type 0
-ChipBytes c = ControlBytes (c .control) × AllBytes (c .load .values)
+ChipBytes c = ControlBytes (c .control)
 
 -- what a chip says is a byte, where it says one
 abbrev pub SaidByte : Said → Type 0

@@ -3,7 +3,7 @@
 use transcript::frame::Frame;
 use transcript::frame::frame_at;
 ghost use mathlib.Core.Path.{_≡_};
-ghost use Rattle.transcript.specs.Frame.{frameAt, meaning};
+ghost use Rattle.transcript.specs.Frame.{meaning};
 ghost use Rattle.reader.specs.Reader.{fromStart, Answered};
 
 pub struct Reader<'a> {
@@ -37,12 +37,4 @@ impl<'a> Reader<'a> {
         self.at = place_after(frame, self.at);
         frame
     }
-}
-
-// The line at a place of a text, by a reader made for it: for callers that hold a plain slice and a number.
-pub fn read_frame(text: &[u8], at: usize) -> Frame
-    ensures { λ frame. ⌜ frame ≡ frameAt (now (text .entry)) at ⌝ }
-{
-    let mut reader = Reader { text, at };
-    reader.next()
 }

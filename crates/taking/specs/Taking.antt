@@ -2,10 +2,12 @@
 -- "Security register"; sheets 6.1, 6.2, 9.3, 10.3 and 10.4.1).
 use Prim.Native.Nat.{ℕ}
 use mathlib.Core.Bool.{true, cond}
+use mathlib.Core.List.{List}
 use Rattle.parts.specs.Part.{geometryOf}
 use Rattle.regions.specs.Page.{nextInPage}
-use Rattle.load.specs.declared.Load.{Load}
-use Rattle.load.specs.Load as load
+use Rattle.load.specs.declared.Span.{Span}
+use Rattle.load.specs.Span.{dropped}
+use Rattle.load.specs.Load.{grownAt, putAt}
 use Rattle.control.specs.declared.Control.{Control}
 use Rattle.control.specs.declared.Answered.{Answered}
 use Rattle.control.specs.declared.phase.Phase.{Phase}
@@ -54,23 +56,52 @@ unfoldable pub take : Control → ℕ → Answered
 take c byte = takeIn (c .phase) c byte
 
 -- Data: a byte for the array or the security register is loaded at its counter's place; nothing is stored yet. Lock data on a
--- locked page ends the exchange, and any load with it
-abbrev pub loadedData : Data → Load → Control → ℕ → Load
-loadedData ToArray held c byte = load.put (geometryOf (c .part)) (c .arraycounter) byte held
-loadedData ToSecurity held c byte = load.put (geometryOf (c .part)) (c .securitycounter) byte held
-loadedData (ToConfiguration came) held c byte = held
-loadedData (ToLock some) held c byte = cond (c .idlocked) (load.emptied held) held
-loadedData ToNowhere held c byte = held
+-- locked page ends the exchange, and any load with it. What is loaded after a byte sent:
+abbrev pub spanData : Data → Span → Control → Span
+spanData ToArray span c = grownAt (geometryOf (c .part)) (c .arraycounter) span
+spanData ToSecurity span c = grownAt (geometryOf (c .part)) (c .securitycounter) span
+spanData (ToConfiguration came) span c = span
+spanData (ToLock some) span c = cond (c .idlocked) (dropped span) span
+spanData ToNowhere span c = span
 
-abbrev pub loadedIn : Phase → Load → Control → ℕ → Load
-loadedIn Standby held c byte = held
-loadedIn Busy held c byte = held
-loadedIn AwaitsAddress held c byte = held
-loadedIn AwaitsChoice held c byte = held
-loadedIn (AwaitsWord word) held c byte = held
-loadedIn (TakesData kind) held c byte = loadedData kind held c byte
-loadedIn (SendsByte source) held c byte = held
+abbrev pub spanIn : Phase → Span → Control → Span
+spanIn Standby span c = span
+spanIn Busy span c = span
+spanIn AwaitsAddress span c = span
+spanIn AwaitsChoice span c = span
+spanIn (AwaitsWord word) span c = span
+spanIn (TakesData kind) span c = spanData kind span c
+spanIn (SendsByte source) span c = span
 
--- the load after a byte sent
-unfoldable pub loaded : Load → Control → ℕ → Load
-loaded held c byte = loadedIn (c .phase) held c byte
+unfoldable pub spanAfter : Span → Control → Span
+spanAfter span c = spanIn (c .phase) span c
+
+-- and the values
+abbrev pub valuesData : Data → Span → Control → ℕ → List ℕ → List ℕ
+valuesData ToArray span c byte values = putAt (geometryOf (c .part)) (c .arraycounter) byte span values
+valuesData ToSecurity span c byte values = putAt (geometryOf (c .part)) (c .securitycounter) byte span values
+valuesData (ToConfiguration came) span c byte values = values
+valuesData (ToLock some) span c byte values = values
+valuesData ToNowhere span c byte values = values
+
+abbrev pub valuesIn : Phase → Span → Control → ℕ → List ℕ → List ℕ
+valuesIn Standby span c byte values = values
+valuesIn Busy span c byte values = values
+valuesIn AwaitsAddress span c byte values = values
+valuesIn AwaitsChoice span c byte values = values
+valuesIn (AwaitsWord word) span c byte values = values
+valuesIn (TakesData kind) span c byte values = valuesData kind span c byte values
+valuesIn (SendsByte source) span c byte values = values
+
+abbrev pub loadedData : Data → Span → Control → ℕ → List ℕ → Span × List ℕ
+loadedData kind span c byte values = (spanData kind span c, valuesData kind span c byte values)
+
+unfoldable pub valuesAfter : Span → Control → ℕ → List ℕ → List ℕ
+valuesAfter span c byte values = valuesIn (c .phase) span c byte values
+
+abbrev pub loadedIn : Phase → Span → Control → ℕ → List ℕ → Span × List ℕ
+loadedIn phase span c byte values = (spanIn phase span c, valuesIn phase span c byte values)
+
+-- both
+abbrev pub loaded : Span → Control → ℕ → List ℕ → Span × List ℕ
+loaded span c byte values = (spanAfter span c, valuesAfter span c byte values)

@@ -7,7 +7,8 @@ use control::Control;
 use control::phase::Came;
 use control::phase::Data;
 use control::phase::Phase;
-use load::Load;
+use load::PAGE_MOST;
+use load::Span;
 use regions::page::next_in_page;
 use wordaddress::take_word;
 ghost use mathlib.Core.Path.{_≡_};
@@ -77,30 +78,30 @@ pub fn take(c: Control, byte: u8) -> Answered
 
 // A data byte goes into the load where it is for the array or the security register. On a locked page lock data ends the
 // exchange, and any load with it.
-fn loaded_data(kind: Data, load: Load, c: Control, byte: u8) -> Load
-    ensures { λ r. ⌜ r ≡ loadedData kind load c byte ⌝ }
+fn loaded_data(kind: Data, span: Span, c: Control, byte: u8, values: &mut [u8; PAGE_MOST]) -> Span
+    ensures { λ r. ⌜ (r, now (values .exit)) ≡ loadedData kind span c byte (now (values .entry)) ⌝ }
 {
     match kind {
-        Data::ToArray => load.put(c.part, c.arraycounter, byte),
-        Data::ToSecurity => load.put(c.part, c.securitycounter, byte),
-        Data::ToConfiguration(_) => load,
-        Data::ToLock(_) => { if c.idlocked { load.emptied() } else { load } }
-        Data::ToNowhere => load,
+        Data::ToArray => span.put(c.part, c.arraycounter, byte, values),
+        Data::ToSecurity => span.put(c.part, c.securitycounter, byte, values),
+        Data::ToConfiguration(_) => span,
+        Data::ToLock(_) => { if c.idlocked { span.dropped() } else { span } }
+        Data::ToNowhere => span,
     }
 }
 
-// The load after a byte sent.
-pub fn loaded(load: Load, c: Control, byte: u8) -> Load
-    ensures { λ r. ⌜ r ≡ loaded load c byte ⌝ }
+// What is loaded after a byte sent, and the values.
+pub fn loaded(span: Span, c: Control, byte: u8, values: &mut [u8; PAGE_MOST]) -> Span
+    ensures { λ r. ⌜ (r, now (values .exit)) ≡ loaded span c byte (now (values .entry)) ⌝ }
 {
     let phase = c.phase;
     match phase {
-        Phase::Standby => load,
-        Phase::Busy => load,
-        Phase::AwaitsAddress => load,
-        Phase::AwaitsChoice => load,
-        Phase::AwaitsWord(_) => load,
-        Phase::TakesData(kind) => loaded_data(kind, load, c, byte),
-        Phase::SendsByte(_) => load,
+        Phase::Standby => span,
+        Phase::Busy => span,
+        Phase::AwaitsAddress => span,
+        Phase::AwaitsChoice => span,
+        Phase::AwaitsWord(_) => span,
+        Phase::TakesData(kind) => loaded_data(kind, span, c, byte, values),
+        Phase::SendsByte(_) => span,
     }
 }

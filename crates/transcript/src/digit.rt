@@ -8,7 +8,7 @@ pub const NO_DIGIT: u8 = 255;
 // How many digits there are.
 pub const DIGITS: u8 = 16;
 
-const DIGIT: [u8; 256] = [
+pub const DIGIT: [u8; 256] = [
     NO_DIGIT,
     NO_DIGIT,
     NO_DIGIT,

@@ -1,6 +1,6 @@
 // A line of a transcript: kind then value, four digits, then LF (paper, "The transcript").
+use crate::digit::DIGIT;
 use crate::digit::DIGITS;
-use crate::digit::digit_of;
 ghost use mathlib.Core.Path.{_≡_};
 ghost use mathlib.Core.Bool.{cond};
 ghost use Rattle.transcript.specs.Frame.{isFrame, eventWord, frameAt};
@@ -27,10 +27,12 @@ pub enum Frame {
 fn frame_of(a: u8, b: u8, c: u8, d: u8, last: u8, next: usize) -> Frame
     ensures { λ r. ⌜ r ≡ cond (isFrame a b c d last) (Frame.Event (eventWord a b c d) next) Frame.Malformed ⌝ }
 {
-    let a = digit_of(a);
-    let b = digit_of(b);
-    let c = digit_of(c);
-    let d = digit_of(d);
+    // The table is built once for the line: each use of the constant builds it anew.
+    let table = DIGIT;
+    let a = table[a as usize];
+    let b = table[b as usize];
+    let c = table[c as usize];
+    let d = table[d as usize];
     if DIGITS <= a {
         return Frame::Malformed;
     }

@@ -58,23 +58,23 @@ module _ (world : World) (e : Entering world) (heeding : (i : ℕ) → i < world
   abbrev free : ℕ → Bool
   free i = not (isBusy (controlAt chips i .phase))
 
-  says : (i : ℕ) → i < placed count → own (ToAll (Sent 0xF8)) chips (world .1) (world .2) i .0 .said ≡ cond (isBusy (controlAt chips i .phase)) Nothing Ack
-  says i below = f8-said (chipAt chips i) _ _ (heeding i (omega (arith, entry .all-placed)))
+  says : (i : ℕ) → i < placed count → own (ToAll (Sent 0xF8)) chips (world .0 .values) (world .1) (world .2) i .0 .said ≡ cond (isBusy (controlAt chips i .phase)) Nothing Ack
+  says i below = f8-said (chipAt chips i) _ _ _ (heeding i (omega (arith, entry .all-placed)))
 
   abbrev reply : ℕ
-  reply = lineReply (Sent 0xF8) (gathered (ToAll (Sent 0xF8)) count chips (world .1) (world .2))
+  reply = lineReply (Sent 0xF8) (gathered (ToAll (Sent 0xF8)) count chips (world .0 .values) (world .1) (world .2))
 
   -- 01 where a chip is free, and where none is no chip acknowledges
   reply-is : (some : Bool) → anyBelow free (placed count) ≡ some → reply ≡ cond some 0x01 0x00
   reply-is true is =
       let (i, (below, here)) = any-some free (placed count) is in
       let idle : isBusy (controlAt chips i .phase) ≡ false = not-true _ here in
-      acknowledged-exactly-when 0xF8 count chips (world .1) (world .2) .1 (i, (below, says i below ∙ rw idle))
-  reply-is false is = go (else-unanswered 0xF8 count chips (world .1) (world .2))
+      acknowledged-exactly-when 0xF8 count chips (world .0 .values) (world .1) (world .2) .1 (i, (below, says i below ∙ rw idle))
+  reply-is false is = go (else-unanswered 0xF8 count chips (world .0 .values) (world .1) (world .2))
     where
       go : (reply ≡ 1) ⊎ (reply ≡ 0) → reply ≡ 0x00
       go (inl one) =
-          let (i, (below, acked)) = acknowledged-exactly-when 0xF8 count chips (world .1) (world .2) .0 one in
+          let (i, (below, acked)) = acknowledged-exactly-when 0xF8 count chips (world .0 .values) (world .1) (world .2) .0 one in
           let busy : isBusy (controlAt chips i .phase) ≡ true = not-false _ (any-none free (placed count) i is below) in
           absurd (false≢true (ap isAck (rw busy at (sym (says i below) ∙ acked))))
       go (inr none) = none
@@ -88,7 +88,7 @@ module _ (world : World) (e : Entering world) (heeding : (i : ℕ) → i < world
   unfolding played
   f8-answered word is =
       ap (λ (made : Made). answerWord (made .0 .answer)) (step-plays world word (ToAll (Sent 0xF8)) e (f8-asks count word is .0) calm)
-      ∙ ap (λ (said : Said). wordOf 0 (lineReply (Sent 0xF8) said)) (answer-is-gathered (ToAll (Sent 0xF8)) count chips (world .1) (world .2) (has-four (e .typed)) (entry .array-fits) (entry .security-fits))
+      ∙ ap (λ (said : Said). wordOf 0 (lineReply (Sent 0xF8) said)) (answer-is-gathered (ToAll (Sent 0xF8)) count chips (world .0 .values) (world .1) (world .2) (has-four (e .typed)) (entry .array-fits) (entry .security-fits))
       ∙ ap (λ (byte : ℕ). wordOf 0 byte) (reply-is (anyBelow free (placed count)) refl)
 
 -- a Start leaves such a bus
@@ -98,7 +98,7 @@ start-leaves world word e is i below =
     let legal = start-asks (world .0 .count) word is .0 in
     let calm : lineVerdict (ToAll Start) world ≡ Passed = to-all-passes world Start (none-any (λ (i : ℕ). false) (placed (world .0 .count)) (λ i below. refl)) in
     ap (λ (w : World). isHeeding (controlAt (w .0 .chips) 0 .phase)) (each-moves world word (ToAll Start) e legal calm i (omega (arith, below, count-kept world word (ToAll Start) e legal)))
-    ∙ start-heeds (chipAt (world .0 .chips) i) (alone i world .1) (alone i world .2)
+    ∙ start-heeds (chipAt (world .0 .chips) i) (world .0 .values) (alone i world .1) (alone i world .2)
 
 pub f8-acknowledged : (events : List ℕ) (world : World) → Entering world → Acknowledged world events
 unfolding after answersTo

@@ -3,11 +3,12 @@
 use Prim.Native.Nat.{ℕ, _+_, _<_, _≤_}
 use native.Mathlib.Nat.{zero-add}
 use native.Mathlib.Omega.{arith}
-use mathlib.Core.Bool.{true, _&&_}
+use mathlib.Core.Bool.{Bool, true, false, cond, _&&_, _||_}
 use mathlib.Core.List.{List, [], _++_, append-nil}
-use mathlib.Core.Path.{_≡_, _∙_, sym, ap}
+use mathlib.Core.Path.{_≡_, _∙_, refl, sym, ap}
 use lib.ListN.{length, take, drop, drop-of-length-le}
 use lib.Seq.{take-all}
+use borrow.Author.Tests.{not-false}
 use Rattle.base.specs.Fold.{upTo}
 use Rattle.base.specs.Store.{span}
 use Rattle.base.proofs.logic.Laws.{and-left, and-right}
@@ -17,10 +18,12 @@ use Rattle.parts.specs.Part.{isPart, geometryOf}
 use Rattle.control.specs.declared.Said.the-variants.{Nothing}
 use Rattle.chip.specs.declared.Chip.{Chip}
 use Rattle.chip.specs.declared.Stepped.{Stepped}
+use Rattle.chip.specs.declared.event.Event.{Event}
 use Rattle.chip.specs.Chip as chip
 use Rattle.wellformed.specs.Wellformed.{isSetUp, countersFit, controlFits}
 use Rattle.wellformed.specs.Wellformed as own
 use Rattle.promises.proofs.Keeping.Lengths.{lengths-kept}
+use Rattle.promises.proofs.Keeping.Values.{unloaded-blind}
 use Rattle.refusal.specs.declared.Verdict.the-variants.{Passed}
 use Rattle.refusal.specs.Checks.{firstOf}
 use Rattle.board.specs.declared.Place.{Place}
@@ -37,7 +40,10 @@ use Rattle.bus.specs.Step.{entryChecks}
 use Rattle.bus.proofs.Entry.{Entered, entered}
 use Rattle.promises.specs.Playing.{World}
 use Rattle.promises.proofs.Formed.{Formed, formed-of, of-formed, of-entry}
-use Rattle.turns.specs.Alone.{onlyBus, alone}
+use Rattle.load.specs.Load.{noValues}
+use Rattle.turns.specs.Idle.{isLoading}
+use Rattle.turns.specs.Seen.{seen}
+use Rattle.turns.specs.Alone.{onlyChips, onlyBus, alone}
 
 -- stores that are all its own
 abbrev pub Fits : Chip → List ℕ → List ℕ → Type 0
@@ -52,20 +58,40 @@ whole-patch values store long =
     let past : drop (length values) store ≡ [] = drop-of-length-le store {i = length values} (omega (arith, long)) in
     rw past (append-nil values)
 
-module _ (addressed : Addressed) (c : Chip) (array security : List ℕ) (fits : Fits c array security) (reached : reaches addressed 0 ≡ true) where
+module _ (addressed : Addressed) (c : Chip) (values array security : List ℕ) (fits : Fits c array security) (reached : reaches addressed 0 ≡ true) where
   abbrev taken : Stepped × List ℕ × List ℕ
-  taken = chip.step c array security (eventOf addressed)
+  taken = chip.step c values array security (eventOf addressed)
 
-  pub alone-plays : play addressed 1 (onlyBus c .chips) array security ≡ (record { chips = onlyBus (taken .0 .chip) .chips; said = heard Nothing (taken .0 .said) }, taken .1, taken .2)
+  pub alone-plays : play addressed 1 (onlyChips c) values array security ≡ (record { chips = onlyChips (taken .0 .chip); said = heard Nothing (taken .0 .said) }, taken .1, taken .2)
   unfolding play upTo placesOf
   alone-plays =
       rw (
         reached,
         whole-share _ array (fits .0),
         whole-share _ security (fits .1),
-        whole-patch (taken .1) array (lengths-kept c array security (eventOf addressed) .0),
-        whole-patch (taken .2) security (lengths-kept c array security (eventOf addressed) .1),
+        whole-patch (taken .1) array (lengths-kept c values array security (eventOf addressed) .0),
+        whole-patch (taken .2) security (lengths-kept c values array security (eventOf addressed) .1),
       )
+
+-- of the values it has those of its own load, and it sees no others
+pub held-same : (c : Chip) (values array security : List ℕ) (event : Event) → chip.step c (cond (isLoading c) values noValues) array security event ≡ chip.step c values array security event
+held-same c values array security event = go (isLoading c) refl
+  where
+    go : (loading : Bool) → isLoading c ≡ loading → chip.step c (cond loading values noValues) array security event ≡ chip.step c values array security event
+    go true is = refl
+    go false is = unloaded-blind c noValues values array security event (not-false _ is)
+
+pub only-unloaded : (c : Chip) (values : List ℕ) → isLoading c ≡ false → onlyBus c values ≡ onlyBus c noValues
+only-unloaded c values none = rw none
+
+-- all that it has can be seen
+pub alone-seen : (k : ℕ) (world : World) → seen (alone k world) ≡ alone k world
+unfolding upTo
+alone-seen k world = ap (λ (values : List ℕ). (record { count = 1; chips = onlyChips (chipAt (world .0 .chips) k); values = values }, alone k world .1, alone k world .2)) (twice (isLoading (chipAt (world .0 .chips) k)))
+  where
+    twice : (loading : Bool) → cond (loading || false) (cond loading (world .0 .values) noValues) noValues ≡ cond loading (world .0 .values) noValues
+    twice true = refl
+    twice false = refl
 
 -- the shares of a chip that the count fills are as long as its part says
 module _ (world : World) (enters : firstOf (entryChecks (world .0) (world .1) (world .2)) ≡ Passed) (k : ℕ) (below : k < world .0 .count) where
@@ -100,7 +126,7 @@ module _ (world : World) (enters : firstOf (entryChecks (world .0) (world .1) (w
   fit : own.wellFormed c ≡ true
   fit = formed .fit k (omega (arith, entry .all-placed))
 
-  set-up : boardVerdict 1 (placesOf (onlyBus c .chips)) ≡ Passed
+  set-up : boardVerdict 1 (placesOf (onlyChips c)) ≡ Passed
   unfolding boardVerdict placesOf upTo own.wellFormed
   set-up =
       let known : isSetUp (c .control) ≡ true = and-left (isSetUp (c .control)) _ (and-left (isSetUp (c .control) && countersFit (c .control)) _ (and-left (controlFits (c .control)) _ fit)) in
@@ -110,7 +136,7 @@ module _ (world : World) (enters : firstOf (entryChecks (world .0) (world .1) (w
   unfolding upTo placesOf
   alone-enters =
       of-entry (alone k world .0) (alone k world .1) (alone k world .2) (
-        of-formed 1 (onlyBus c .chips) (
+        of-formed 1 (onlyChips c) (
             record {
               set-up = set-up;
               fit = λ i first. let is : i ≡ 0 = omega arith in rw is fit;

@@ -12,8 +12,8 @@ use Rattle.parts.specs.Part.{geometryOf}
 use Rattle.parts.specs.Address.{answers, shareAddress}
 use Rattle.parts.proofs.part.Laws.{sound-of}
 use Rattle.parts.proofs.address.Laws.{share-exactly-when}
-use Rattle.load.specs.declared.Load.{Load}
-use Rattle.load.specs.Load as load
+use Rattle.load.specs.declared.Span.{Span}
+use Rattle.load.specs.Span as span
 use Rattle.control.specs.declared.Answered.{Answered}
 use Rattle.control.specs.declared.Said.the-variants.{Nothing, Ack}
 use Rattle.control.specs.declared.phase.Phase.{Phase}
@@ -33,13 +33,13 @@ use Rattle.chip.specs.declared.event.Event.the-variants.{Start, Stop, Sent, Rea
 use Rattle.chip.specs.Chip.{quiet, take, step}
 use Rattle.board.specs.declared.Place.{Place}
 use Rattle.decode.specs.Hearing.{clashesWith}
-use Rattle.line.proofs.Deaf.{deaf-stays}
+use Rattle.line.proofs.Deaf.{sent-stays, read-stays}
 use Rattle.turns.specs.Idle.{isLoading, isAtRest}
 use Rattle.turns.specs.Turn.{Next, Anything, AddressByte, ChoiceByte, isAddressOf, isFirstByte}
 
 -- in another phase, its load dropped
 abbrev pub woken : Phase → Chip → Chip
-woken phase c = record { control = inPhase phase (c .control); load = load.emptied (c .load) }
+woken phase c = record { control = inPhase phase (c .control); span = span.dropped (c .span) }
 
 -- a chip that has heard a Start, or F8h after it, and awaits the byte that follows; a busy one stays as it is
 abbrev pub awaiting : Phase → Chip → Chip
@@ -53,11 +53,11 @@ whileAnothersTurn ChoiceByte c = awaiting AwaitsChoice c
 
 -- a chip whose choice is dropped
 abbrev dropped : Chip → Chip
-dropped c = record { control = choosing false (c .control); load = c .load }
+dropped c = record { control = choosing false (c .control); span = c .span }
 
-pub hears-start : (c : Chip) (a s : List ℕ) → step c a s Start ≡ (quiet (whileAnothersTurn AddressByte c), a, s)
+pub hears-start : (c : Chip) (v a s : List ℕ) → step c v a s Start ≡ (quiet (whileAnothersTurn AddressByte c), a, s)
 unfolding step
-hears-start c a s = refl
+hears-start c v a s = refl
 
 -- the call that a byte is for a chip whose codes are not those of a place
 module _ (c : Chip) (place : Place)
@@ -132,76 +132,76 @@ module _ (c : Chip) (rest : isAtRest c ≡ true) where
       resting-is (c .control .phase) sends-nothing takes-nothing (λ (phase : Phase). c .control .phase ≡ phase → G) standby busy refl
 
   -- no byte is loaded, so a load that is dropped is the same load
-  pub rest-emptied : load.emptied (c .load) ≡ c .load
-  rest-emptied = ap (λ (count : ℕ). record { span = record { first = c .load .span .first; count = count }; values = c .load .values }) (sym none)
+  rest-dropped : span.dropped (c .span) ≡ c .span
+  rest-dropped = ap (λ (count : ℕ). record { first = c .span .first; count = count }) (sym none)
     where
-      none : c .load .span .count ≡ 0
+      none : c .span .count ≡ 0
       none = eqb-true _ _ (not-false _ (not-true _ (and-left _ _ empty-handed)))
 
   -- on standby, its load and its choice dropped, it is as it was
   asleep : c .control .phase ≡ Standby → woken Standby c ≡ c
   asleep standby =
       ap (λ (phase : Phase). woken phase c) (sym standby)
-      ∙ ap (λ (held : Load). record { control = c .control; load = held }) rest-emptied
+      ∙ ap (λ (held : Span). record { control = c .control; span = held }) rest-dropped
 
   unpicked : dropped c ≡ c
-  unpicked = ap (λ (picked : Bool). record { control = choosing picked (c .control); load = c .load }) (sym unchosen)
+  unpicked = ap (λ (picked : Bool). record { control = choosing picked (c .control); span = c .span }) (sym unchosen)
 
-  pub passes-byte : (a s : List ℕ) (byte : ℕ) → step c a s (Sent byte) ≡ (quiet c, a, s)
-  passes-byte a s byte = deaf-stays c a s (Sent byte) takes-nothing
+  pub passes-byte : (v a s : List ℕ) (byte : ℕ) → step c v a s (Sent byte) ≡ (quiet c, a, s)
+  passes-byte v a s byte = sent-stays c v a s byte takes-nothing
 
-  pub passes-read : (a s : List ℕ) (nack : Bool) → step c a s (Read nack) ≡ (quiet c, a, s)
-  passes-read a s nack = deaf-stays c a s (Read nack) sends-nothing
+  pub passes-read : (v a s : List ℕ) (nack : Bool) → step c v a s (Read nack) ≡ (quiet c, a, s)
+  passes-read v a s nack = read-stays c v a s nack sends-nothing
 
-  pub passes-stop : (a s : List ℕ) → step c a s Stop ≡ (quiet c, a, s)
+  pub passes-stop : (v a s : List ℕ) → step c v a s Stop ≡ (quiet c, a, s)
   unfolding step cycle.stop
-  passes-stop a s =
-      two-ways (step c a s Stop ≡ (quiet c, a, s))
+  passes-stop v a s =
+      two-ways (step c v a s Stop ≡ (quiet c, a, s))
       (λ standby.
-      let ended : step c a s Stop ≡ (quiet (woken Standby (dropped c)), a, s) = rw standby in
+      let ended : step c v a s Stop ≡ (quiet (woken Standby (dropped c)), a, s) = rw standby in
       ended ∙ ap (λ (d : Chip). (quiet d, a, s)) (ap (woken Standby) unpicked ∙ asleep standby))
       (λ busy. rw busy)
 
   -- a byte that it awaits: a busy chip takes no notice, and one on standby has been woken
-  hears-awaited : (phase : Phase) (a s : List ℕ) (byte : ℕ) (after : Stepped)
+  hears-awaited : (phase : Phase) (v a s : List ℕ) (byte : ℕ) (after : Stepped)
       → (c .control .phase ≡ Standby → take (woken phase c) byte ≡ after) → (c .control .phase ≡ Busy → quiet c ≡ after)
-      → step (awaiting phase c) a s (Sent byte) ≡ (after, a, s)
+      → step (awaiting phase c) v a s (Sent byte) ≡ (after, a, s)
   unfolding step
-  hears-awaited phase a s byte after on-standby on-busy =
-      two-ways (step (awaiting phase c) a s (Sent byte) ≡ (after, a, s))
+  hears-awaited phase v a s byte after on-standby on-busy =
+      two-ways (step (awaiting phase c) v a s (Sent byte) ≡ (after, a, s))
       (λ standby. rw standby (ap (λ (x : Stepped). (x, a, s)) (on-standby standby)))
       (λ busy.
       let same : awaiting phase c ≡ c = rw busy in
-      ap (λ (d : Chip). step d a s (Sent byte)) same ∙ passes-byte a s byte ∙ ap (λ (x : Stepped). (x, a, s)) (on-busy busy))
+      ap (λ (d : Chip). step d v a s (Sent byte)) same ∙ passes-byte v a s byte ∙ ap (λ (x : Stepped). (x, a, s)) (on-busy busy))
 
-  passes : (phase : Phase) (a s : List ℕ) (byte : ℕ) → take (woken phase c) byte ≡ quiet (woken Standby c)
-      → step (awaiting phase c) a s (Sent byte) ≡ (quiet c, a, s)
-  passes phase a s byte is = hears-awaited phase a s byte (quiet c) (λ standby. is ∙ ap quiet (asleep standby)) (λ busy. refl)
+  passes : (phase : Phase) (v a s : List ℕ) (byte : ℕ) → take (woken phase c) byte ≡ quiet (woken Standby c)
+      → step (awaiting phase c) v a s (Sent byte) ≡ (quiet c, a, s)
+  passes phase v a s byte is = hears-awaited phase v a s byte (quiet c) (λ standby. is ∙ ap quiet (asleep standby)) (λ busy. refl)
 
-  pub hears-f8 : (a s : List ℕ)
-      → step (whileAnothersTurn AddressByte c) a s (Sent 0xF8) ≡ (record { chip = whileAnothersTurn ChoiceByte c; said = cond (isBusy (c .control .phase)) Nothing Ack }, a, s)
-  unfolding taking.take taking.loaded takeAddress callOf
-  hears-f8 a s =
-      hears-awaited AwaitsAddress a s 0xF8 _
+  pub hears-f8 : (v a s : List ℕ)
+      → step (whileAnothersTurn AddressByte c) v a s (Sent 0xF8) ≡ (record { chip = whileAnothersTurn ChoiceByte c; said = cond (isBusy (c .control .phase)) Nothing Ack }, a, s)
+  unfolding taking.take taking.spanAfter takeAddress callOf
+  hears-f8 v a s =
+      hears-awaited AwaitsAddress v a s 0xF8 _
       (λ standby. rw standby (ap (λ (d : Chip). record { chip = woken AwaitsChoice d; said = Ack }) unpicked))
       (λ busy. rw busy)
 
-  module _ (a s : List ℕ) (place : Place) (byte : ℕ)
+  module _ (v a s : List ℕ) (place : Place) (byte : ℕ)
       (unshared : shareAddress (geometryOf (place .part)) (place .strap) (geometryOf (c .control .part)) (c .control .strap) ≡ false) where
-    pub passes-first : isFirstByte place byte ≡ true → step (whileAnothersTurn AddressByte c) a s (Sent byte) ≡ (quiet c, a, s)
-    unfolding taking.take taking.loaded takeAddress
+    pub passes-first : isFirstByte place byte ≡ true → step (whileAnothersTurn AddressByte c) v a s (Sent byte) ≡ (quiet c, a, s)
+    unfolding taking.take taking.spanAfter takeAddress
     passes-first is =
-        passes AwaitsAddress a s byte
+        passes AwaitsAddress v a s byte
         (first-called c place unshared (λ (call : Call). heard (takeCall call (inPhase AwaitsAddress (c .control))) ≡ quiet (woken Standby c)) byte is
         (rw unchosen)
         (ap (λ (d : Chip). quiet (woken Standby d)) unpicked))
       where
         heard : Answered → Stepped
-        heard answered = record { chip = record { control = answered .control; load = load.emptied (c .load) }; said = answered .said }
+        heard answered = record { chip = record { control = answered .control; span = span.dropped (c .span) }; said = answered .said }
 
-    pub passes-choice : isAddressOf 0b1010 place byte ≡ true → step (whileAnothersTurn ChoiceByte c) a s (Sent byte) ≡ (quiet c, a, s)
-    unfolding taking.take taking.loaded takeChoice
-    passes-choice is = passes AwaitsChoice a s byte (rw (address-for-nobody c place unshared 0b1010 byte (omega arith) is))
+    pub passes-choice : isAddressOf 0b1010 place byte ≡ true → step (whileAnothersTurn ChoiceByte c) v a s (Sent byte) ≡ (quiet c, a, s)
+    unfolding taking.take taking.spanAfter takeChoice
+    passes-choice is = passes AwaitsChoice v a s byte (rw (address-for-nobody c place unshared 0b1010 byte (omega arith) is))
 
   pub rest-clashes : (event : Event) → clashesWith event (c .control .phase) ≡ false
   rest-clashes Start = refl
@@ -216,7 +216,17 @@ module _ (c : Chip) (rest : isAtRest c ≡ true) where
   awaiting-sends-nothing phase silent =
       either (λ (d : Chip). isSending (d .control .phase) ≡ false) (isBusy (c .control .phase)) c (woken phase c) sends-nothing silent
 
+  awaiting-unloaded : (phase : Phase) → isLoading (awaiting phase c) ≡ false
+  awaiting-unloaded phase =
+      either (λ (d : Chip). isLoading d ≡ false) (isBusy (c .control .phase)) c (woken phase c) (not-true _ (and-left _ _ empty-handed)) refl
+
   pub waiting-sends-nothing : (next : Next) → isSending (whileAnothersTurn next c .control .phase) ≡ false
   waiting-sends-nothing Anything = sends-nothing
   waiting-sends-nothing AddressByte = awaiting-sends-nothing AwaitsAddress refl
   waiting-sends-nothing ChoiceByte = awaiting-sends-nothing AwaitsChoice refl
+
+  -- and it holds no load
+  pub waiting-unloaded : (next : Next) → isLoading (whileAnothersTurn next c) ≡ false
+  waiting-unloaded Anything = not-true _ (and-left _ _ empty-handed)
+  waiting-unloaded AddressByte = awaiting-unloaded AwaitsAddress
+  waiting-unloaded ChoiceByte = awaiting-unloaded AwaitsChoice

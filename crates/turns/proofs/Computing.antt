@@ -7,14 +7,14 @@ use Rattle.base.specs.Fold.{upTo}
 use Rattle.parts.specs.Part.{geometryOf}
 use Rattle.load.specs.Load.{storePage}
 use Rattle.addressing.specs.Address.{callOf, takeAddress, takeChoice}
-use Rattle.taking.specs.Taking.{take, loaded}
+use Rattle.taking.specs.Taking as taking
 use Rattle.sending.specs.Sending.{read}
 use Rattle.cycle.specs.Stop.{stop}
 use Rattle.chip.specs.Chip as chip
 use Rattle.refusal.specs.Refusal.{answerWord}
 use Rattle.decode.specs.Decode.{addressedOf}
 use Rattle.lineup.specs.Chips.{placesOf}
-use Rattle.line.specs.Line.{play}
+use Rattle.line.specs.Line as line
 use Rattle.bus.specs.Step.{played, event, step}
 use Rattle.promises.specs.Playing.{World, Made, Bench, ledTo, after, answersTo}
 use Rattle.promises.proofs.Runs.{step-is-event}
@@ -25,7 +25,7 @@ use Rattle.turns.proofs.Entering.{Entering, entering-kept}
 
 -- who unfolds it unfolds all that an event and a turn are made of
 unfoldable pub eventByEvent : Bench
-unfolding event played play chip.step take loaded takeAddress takeChoice callOf geometryOf read stop storePage upTo addressedOf placesOf areTurns isTurnAt isRestOfTurn eventsOf turnsOf beganAt answersOf after answersTo
+unfolding event played line.play line.valuesAfter chip.step chip.valuesAfter taking.take taking.spanAfter taking.valuesAfter takeAddress takeChoice callOf geometryOf read stop storePage upTo addressedOf placesOf areTurns isTurnAt isRestOfTurn eventsOf turnsOf beganAt answersOf after answersTo
 eventByEvent = event
 
 -- what entered still enters with it

@@ -6,6 +6,9 @@ use mathlib.Core.Bool.{Bool, true, false, cond, _&&_, true≢false}
 use mathlib.Core.List.{List, [], _∷_, map}
 use mathlib.Core.Path.{_≡_, _∙_, refl, sym, ap, subst}
 use lib.ListN.{getD}
+use borrow.Author.Tests.{not-false}
+use Rattle.load.specs.Span.{isEmpty}
+use Rattle.load.specs.Load.{noValues}
 use Rattle.control.specs.declared.Said.{Said}
 use Rattle.control.specs.declared.Said.the-variants.{Nothing}
 use Rattle.control.specs.declared.phase.Phase.{Phase}
@@ -22,17 +25,23 @@ use Rattle.decode.specs.declared.Addressed.{Addressed}
 use Rattle.decode.specs.Decode.{reaches, eventOf}
 use Rattle.decode.specs.Hearing.{clashesWith}
 use Rattle.lineup.specs.Chips.{chipAt, controlAt, placesOf}
+use Rattle.line.specs.Line.{chipLoads, valuesAfter}
+use Rattle.bus.specs.declared.Bus.{Bus}
 use Rattle.bus.specs.Step.{step}
 use Rattle.promises.specs.Own.{own}
 use Rattle.promises.specs.Playing.{World, ledTo, afterOne, answerTo, after, answersTo}
-use Rattle.turns.specs.Idle.{isAtRest}
+use Rattle.promises.proofs.Keeping.Values.{unloaded-blind, no-load-no-values}
+use Rattle.turns.specs.Idle.{isLoading, isAtRest}
+use Rattle.turns.specs.Seen.{seen}
 use Rattle.turns.specs.Turn.{isStart, isF8, Next, Anything, AddressByte, ChoiceByte}
 use Rattle.turns.specs.Shuffle.{isExcepted}
 use Rattle.turns.specs.Alone.{alone, renamed, onlyBus}
 use Rattle.turns.proofs.Asked.{only, Asked}
 use Rattle.turns.proofs.Entering.{Entering, entering-kept}
+use Rattle.turns.proofs.Seen.{never-seen}
+use Rattle.turns.proofs.Alone.{held-same, only-unloaded, alone-seen}
 use Rattle.turns.proofs.Stepping.{lineVerdict, step-refused, count-kept, board-kept, rest-kept, each-moves}
-use Rattle.turns.proofs.Event.{verdict-is-its-own, alone-moves, answers-alike}
+use Rattle.turns.proofs.Event.{by-itself, verdict-is-its-own, alone-moves, answers-alike}
 use Rattle.turns.proofs.Bystander.{whileAnothersTurn}
 use Rattle.turns.proofs.Resting.{isHeeding}
 
@@ -49,7 +58,7 @@ pub record During (k : ℕ) (next : Next) (began now : World) : Type 0 where
   pub rest : (i : ℕ) → began .0 .count ≤ i → chipAt (now .0 .chips) i ≡ chipAt (began .0 .chips) i
   pub heeds : Heeds next (controlAt (now .0 .chips) k .phase)
   pub others : (j : ℕ) → j < began .0 .count → (j ≡ k → ⊥)
-      → alone j now ≡ (onlyBus (whileAnothersTurn next (chipAt (began .0 .chips) j)), alone j began .1, alone j began .2)
+      → alone j now ≡ (onlyBus (whileAnothersTurn next (chipAt (began .0 .chips) j)) noValues, alone j began .1, alone j began .2)
 
 -- which answer to the rest of a turn is excepted; `started` says whether a Start has come just before
 abbrev pub excepted : Bool → List ℕ → ℕ → Bool
@@ -60,28 +69,37 @@ excepted started events (suc i) = isExcepted events (suc i)
 pub record Went (k : ℕ) (started : Bool) (events : List ℕ) (began now : World) : Type 0 where
   pub ended : During k Anything began (after step now events)
   pub rests : isAtRest (chipAt (after step now events .0 .chips) k) ≡ true
-  pub moves : alone k (after step now events) ≡ after step (alone k now) (map renamed events)
+  pub moves : alone k (after step now events) ≡ seen (after step (alone k now) (map renamed events))
   pub answers : (i : ℕ) → excepted started events i ≡ false
       → getD (answersTo step now events) i 0 ≡ getD (answersTo step (alone k now) (map renamed events)) i 0
 
 -- one event, and the rest
-went-on : (k : ℕ) (started : Bool) (word : ℕ) (more : List ℕ) (began now : World)
-    → alone k (afterOne step now word) ≡ afterOne step (alone k now) (renamed word)
+went-on : (k : ℕ) (started : Bool) (word : ℕ) (more : List ℕ) (began now : World) → Entering (alone k now)
+    → alone k (afterOne step now word) ≡ seen (afterOne step (alone k now) (renamed word))
     → ((started && isF8 word) ≡ false → answerTo step now word ≡ answerTo step (alone k now) (renamed word))
     → Went k (isStart word) more began (afterOne step now word)
     → Went k started (word ∷ more) began now
 unfolding after answersTo
-went-on k started word more began now moves answer later =
+went-on k started word more began now by-itself moves answer later =
     record {
       ended = later .ended;
       rests = later .rests;
-      moves = later .moves ∙ ap (λ (w : World). after step w (map renamed more)) moves;
+      moves = later .moves ∙ ap (λ (w : World). seen (after step w (map renamed more))) moves ∙ unseen .1;
       answers = answers;
     }
   where
+    -- k alone goes on as if it had no other values
+    unseen : let next = afterOne step (alone k now) (renamed word) in
+        (answersTo step (seen next) (map renamed more) ≡ answersTo step next (map renamed more))
+        × (seen (after step (seen next) (map renamed more)) ≡ seen (after step next (map renamed more)))
+    unseen = never-seen (map renamed more) (afterOne step (alone k now) (renamed word)) (entering-kept (alone k now) (renamed word) by-itself)
+
     moved : (i : ℕ) → excepted (isStart word) more i ≡ false
         → getD (answersTo step (afterOne step now word) more) i 0 ≡ getD (answersTo step (afterOne step (alone k now) (renamed word)) (map renamed more)) i 0
-    moved i usual = later .answers i usual ∙ ap (λ (w : World). getD (answersTo step w (map renamed more)) i 0) moves
+    moved i usual =
+        later .answers i usual
+        ∙ ap (λ (w : World). getD (answersTo step w (map renamed more)) i 0) moves
+        ∙ ap (λ (answers : List ℕ). getD answers i 0) (unseen .0)
 
     answers : (i : ℕ) → excepted started (word ∷ more) i ≡ false
         → getD (answersTo step now (word ∷ more)) i 0 ≡ getD (answersTo step (alone k now) (map renamed (word ∷ more))) i 0
@@ -92,14 +110,15 @@ went-on k started word more began now moves answer later =
 -- what chip j makes of an event, of its own world
 abbrev pub takes : Addressed → ℕ → World → Stepped × List ℕ × List ℕ
 takes addressed j world =
-    cond (reaches addressed j) (chip.step (chipAt (world .0 .chips) 0) (world .1) (world .2) (eventOf addressed)) (quiet (chipAt (world .0 .chips) 0), world .1, world .2)
+    cond (reaches addressed j) (chip.step (chipAt (world .0 .chips) 0) (world .0 .values) (world .1) (world .2) (eventOf addressed)) (quiet (chipAt (world .0 .chips) 0), world .1, world .2)
 
 -- another chip sits through an event of the turn
 abbrev pub SitsThrough : Addressed → Next → Next → (Chip → Said) → ℕ → World → Type 0
 SitsThrough addressed next next′ says j began =
     let c = chipAt (began .0 .chips) j in
     (clashesWith (eventOf addressed) (whileAnothersTurn next c .control .phase) ≡ false)
-    × (takes addressed j (onlyBus (whileAnothersTurn next c), alone j began .1, alone j began .2) ≡ (record { chip = whileAnothersTurn next′ c; said = says c }, alone j began .1, alone j began .2))
+    × (takes addressed j (onlyBus (whileAnothersTurn next c) noValues, alone j began .1, alone j began .2) ≡ (record { chip = whileAnothersTurn next′ c; said = says c }, alone j began .1, alone j began .2))
+    × ((n : Next) → isLoading (whileAnothersTurn n c) ≡ false)
 
 -- an event of the turn, which the others sit through
 module _ (k : ℕ) (next next′ : Next) (began now : World) (below : k < began .0 .count) (d : During k next began now) (word : ℕ) (addressed : Addressed) (asked : Asked (now .0 .count) word addressed) (reached : reaches addressed k ≡ true) (says : Chip → Said)
@@ -112,7 +131,7 @@ module _ (k : ℕ) (next next′ : Next) (began now : World) (below : k < began 
   ownVerdict = lineVerdict (only addressed) (alone k now)
 
   abbrev taken : Stepped × List ℕ × List ℕ
-  taken = chip.step (chipAt chips k) (alone k now .1) (alone k now .2) (eventOf addressed)
+  taken = chip.step (chipAt chips k) (now .0 .values) (alone k now .1) (alone k now .2) (eventOf addressed)
 
   below-now : k < now .0 .count
   below-now = omega (arith, below, d .count)
@@ -124,8 +143,29 @@ module _ (k : ℕ) (next next′ : Next) (began now : World) (below : k < began 
 
   -- what another chip has made of it
   sat : (j : ℕ) → j < began .0 .count → (j ≡ k → ⊥)
-      → own addressed chips (now .1) (now .2) j ≡ (record { chip = whileAnothersTurn next′ (chipAt (began .0 .chips) j); said = says (chipAt (began .0 .chips) j) }, alone j began .1, alone j began .2)
-  sat j before differ = ap (takes addressed j) (d .others j before differ) ∙ sit j before differ .1
+      → own addressed chips (now .0 .values) (now .1) (now .2) j ≡ (record { chip = whileAnothersTurn next′ (chipAt (began .0 .chips) j); said = says (chipAt (began .0 .chips) j) }, alone j began .1, alone j began .2)
+  sat j before differ =
+      ap (λ (next : Stepped × List ℕ × List ℕ). cond (reaches addressed j) next (quiet (chipAt chips j), alone j now .1, alone j now .2))
+      (sym (held-same (chipAt chips j) (now .0 .values) (alone j now .1) (alone j now .2) (eventOf addressed)))
+      ∙ ap (takes addressed j) (d .others j before differ)
+      ∙ sit j before differ .1
+
+  -- and it has loaded nothing
+  unloading : (j : ℕ) → j < now .0 .count → (j ≡ k → ⊥) → (values : List ℕ) → chipLoads addressed (now .0 .chips) j values ≡ values
+  unloading j before differ values = go (reaches addressed j) (ap (λ (x : Stepped × List ℕ × List ℕ). isLoading (x .0 .chip)) (sat j there differ) ∙ sit j there differ .2 next′)
+    where
+      there : j < began .0 .count
+      there = omega (arith, before, d .count)
+
+      empty : isEmpty (chipAt chips j .span) ≡ true
+      empty = not-false _ (ap (λ (w : World). isLoading (chipAt (w .0 .chips) 0)) (d .others j there differ) ∙ sit j there differ .2 next)
+
+      go : (reached : Bool) → isLoading (cond reached (chip.step (chipAt chips j) (now .0 .values) (alone j now .1) (alone j now .2) (eventOf addressed)) (quiet (chipAt chips j), alone j now .1, alone j now .2) .0 .chip) ≡ false
+          → cond reached (chip.valuesAfter (chipAt chips j) (eventOf addressed) values) values ≡ values
+      go true is =
+          no-load-no-values (chipAt chips j) values (alone j now .1) (alone j now .2) (eventOf addressed) empty
+          (rw (unloaded-blind (chipAt chips j) values (now .0 .values) (alone j now .1) (alone j now .2) (eventOf addressed) empty) (not-false _ is))
+      go false is = refl
 
   turn-verdict : lineVerdict addressed now ≡ ownVerdict
   turn-verdict = verdict-is-its-own now (d .entering) k below-now word addressed asked reached unclashing
@@ -155,7 +195,8 @@ module _ (k : ℕ) (next next′ : Next) (began now : World) (below : k < began 
             heeds = subst (λ (c : Chip). Heeds next′ (c .control .phase)) (sym (turn-taken is)) heeding;
             others = λ j before differ.
                 each-moves now word addressed (d .entering) (asked .0) is j (omega (arith, before, d .count))
-                ∙ ap (λ (x : Stepped × List ℕ × List ℕ). (onlyBus (x .0 .chip), x .1, x .2)) (sat j before differ);
+                ∙ ap (λ (x : Stepped × List ℕ × List ℕ). (onlyBus (x .0 .chip) (valuesAfter addressed (now .0 .count) (now .0 .chips) (now .0 .values)), x .1, x .2)) (sat j before differ)
+                ∙ ap (λ (bus : Bus). (bus, alone j began .1, alone j began .2)) (only-unloaded _ _ (sit j before differ .2 next′));
           }
 
   -- k is at rest where it was so and the event is refused, or its own step leaves it so
@@ -170,11 +211,12 @@ module _ (k : ℕ) (next next′ : Next) (began now : World) (below : k < began 
     pub event-goes : (more : List ℕ)
         → (During k next′ began (afterOne step now word) → Went k (isStart word) more began (afterOne step now word))
         → ((refusal : Refusal) → lineVerdict (only addressed) (alone k now) ≡ Refused refusal → next ≡ next′)
-        → Heeds next′ (chip.step (chipAt (now .0 .chips) k) (alone k now .1) (alone k now .2) (eventOf addressed) .0 .chip .control .phase)
+        → Heeds next′ (chip.step (chipAt (now .0 .chips) k) (now .0 .values) (alone k now .1) (alone k now .2) (eventOf addressed) .0 .chip .control .phase)
         → Went k started (word ∷ more) began now
     event-goes more later refusable heeding =
         went-on k started word more began now
-        (alone-moves now (d .entering) k below-now word addressed asked reached unclashing)
+        (by-itself now (d .entering) k below-now word addressed asked reached unclashing)
+        (alone-moves now (d .entering) k below-now word addressed asked reached unclashing unloading)
         (λ none. answers-alike now (d .entering) k below-now word addressed asked reached unclashing λ j before differ.
         ap (λ (x : Stepped × List ℕ × List ℕ). x .0 .said) (sat j (omega (arith, before, d .count)) differ) ∙ usual none _)
         (later (turn-goes-on refusable heeding))
@@ -183,14 +225,14 @@ module _ (k : ℕ) (next next′ : Next) (began now : World) (below : k < began 
     pub calm-goes : (more : List ℕ)
         → (During k next′ began (afterOne step now word) → Went k (isStart word) more began (afterOne step now word))
         → lineVerdict (only addressed) (alone k now) ≡ Passed
-        → Heeds next′ (chip.step (chipAt (now .0 .chips) k) (alone k now .1) (alone k now .2) (eventOf addressed) .0 .chip .control .phase)
+        → Heeds next′ (chip.step (chipAt (now .0 .chips) k) (now .0 .values) (alone k now .1) (alone k now .2) (eventOf addressed) .0 .chip .control .phase)
         → Went k started (word ∷ more) began now
     calm-goes more later calm = event-goes more later (λ refusal is. absurd (true≢false (ap isPassed (sym calm ∙ is))))
 
     -- the last one, which leaves k at rest
     pub last-goes : Anything ≡ next′
         → ((refusal : Refusal) → lineVerdict (only addressed) (alone k now) ≡ Refused refusal → (next ≡ next′) × (isAtRest (chipAt (now .0 .chips) k) ≡ true))
-        → isAtRest (chip.step (chipAt (now .0 .chips) k) (alone k now .1) (alone k now .2) (eventOf addressed) .0 .chip) ≡ true
+        → isAtRest (chip.step (chipAt (now .0 .chips) k) (now .0 .values) (alone k now .1) (alone k now .2) (eventOf addressed) .0 .chip) ≡ true
         → Went k started (word ∷ []) began now
     unfolding after answersTo
     last-goes free refusable rests =
@@ -198,7 +240,7 @@ module _ (k : ℕ) (next next′ : Next) (began now : World) (below : k < began 
         record {
           ended = subst (λ (n : Next). During k n began (afterOne step now word)) (sym free) ended;
           rests = turn-rests (λ refusal is. refusable refusal is .1) rests;
-          moves = refl;
+          moves = sym (alone-seen k (afterOne step now word));
           answers = λ i plain. refl;
         })
         (λ refusal is. refusable refusal is .0)

@@ -2,12 +2,13 @@
 -- so does every turn.
 use Prim.Native.Nat.{ℕ}
 use mathlib.Core.Bool.{true}
+use mathlib.Core.List.{List, [], _∷_}
 use mathlib.Core.Path.{_≡_}
 use Rattle.refusal.specs.declared.Verdict.the-variants.{Passed}
 use Rattle.refusal.specs.Checks.{firstOf}
 use Rattle.bus.specs.Step.{entryChecks, step}
 use Rattle.bus.proofs.Typed.{OfItsType}
-use Rattle.promises.specs.Playing.{World, afterOne}
+use Rattle.promises.specs.Playing.{World, afterOne, after}
 use Rattle.promises.proofs.Runs.{step-keeps}
 use Rattle.turns.specs.Idle.{isIdle}
 use Rattle.turns.specs.Undisturbed.{Ready}
@@ -20,6 +21,11 @@ pub entering-kept : (world : World) (word : ℕ) → Entering world → Entering
 entering-kept world word e =
     let kept = step-keeps (world .0) (world .1) (world .2) word (e .typed) (e .enters) in
     record { typed = kept .typed; enters = kept .enters }
+
+pub entering-after : (events : List ℕ) (world : World) → Entering world → Entering (after step world events)
+unfolding after
+entering-after [] world e = e
+entering-after (word ∷ more) world e = entering-after more (afterOne step world word) (entering-kept world word e)
 
 pub record Idling (world : World) : Type 0 where
   pub entering : Entering world

@@ -13,7 +13,8 @@ use Rattle.base.specs.Fold.{upTo}
 use Rattle.base.specs.Store.{span}
 use Rattle.base.proofs.Store.{span-length, span-at}
 use Rattle.parts.specs.Part.{geometryOf}
-use Rattle.load.specs.Load as load
+use Rattle.load.specs.Span.{emptySpan}
+use Rattle.load.specs.Load.{noValues}
 use Rattle.control.specs.declared.Control.{Control}
 use Rattle.control.specs.declared.phase.Phase.the-variants.{Standby, Busy}
 use Rattle.control.specs.Control.{fresh, inPhase, wpAt}
@@ -36,17 +37,17 @@ use Rattle.turns.specs.Benches.{ourBench}
 use Rattle.turns.specs.Undisturbed.{Ready, Turns, Alike}
 use Rattle.turns.proofs.Entering.{Entering, Idling, idling}
 use Rattle.turns.proofs.OneTurn.{alone-idles}
-use Rattle.turns.proofs.Typed.{ControlTyped, standby-typed, busy-typed, fresh-typed, unloaded-typed, empty-typed}
+use Rattle.turns.proofs.Typed.{ControlTyped, standby-typed, busy-typed, fresh-typed, unloaded-typed, empty-typed, no-values-typed}
 use Rattle.turns.proofs.Undisturbed.{undisturbed}
 use Rattle.turns.proofs.Computing.{eventByEvent, computed, computed-answer, none, none-keeps}
 
 -- up to three chips, none of which holds a load
 abbrev withoutLoad : Control → Chip
-withoutLoad c = record { control = c; load = load.empty }
+withoutLoad c = record { control = c; span = emptySpan }
 
 abbrev line : ℕ → Control → Control → Control → Bus
 line count one two three =
-    record { count = count; chips = withoutLoad one ∷ withoutLoad two ∷ withoutLoad three ∷ emptyChip ∷ [] }
+    record { count = count; chips = withoutLoad one ∷ withoutLoad two ∷ withoutLoad three ∷ emptyChip ∷ []; values = noValues }
 
 abbrev pub busy : Control → Control
 busy c = inPhase Busy c
@@ -60,7 +61,7 @@ cycling-typed part strap fits fits′ = fresh-typed part strap fits fits′ fals
 
 line-is-typed : (count : ℕ) → count < 2 ^ 64 → (one two three : Control) → ControlTyped one → ControlTyped two → ControlTyped three → OfItsType (line count one two three)
 line-is-typed count fits one two three first second third =
-    bus-typed count _ fits refl (unloaded-typed one first, (unloaded-typed two second, (unloaded-typed three third, (empty-typed, tt))))
+    bus-typed count _ noValues fits refl (unloaded-typed one first, (unloaded-typed two second, (unloaded-typed three third, (empty-typed, tt)))) no-values-typed
 
 -- a 24CSM01 at strap 1, a 24CS32 at strap 0 that is busy, and a 24CS32 at strap 5 that is protected, with EWPM 0 and WP high
 abbrev pub mixed : Bus
@@ -148,7 +149,7 @@ cut-replicate at n m x fits =
 
 -- what the busy chip answers there is what it answers alone, where it has 4,096 bytes and not 139,264
 abbrev busyOne : List ℕ → List ℕ → World
-busyOne array security = (onlyBus (withoutLoad (busy (fresh 2 0))), array, security)
+busyOne array security = (onlyBus (withoutLoad (busy (fresh 2 0))) noValues, array, security)
 
 alone-is : alone 1 board ≡ busyOne (replicate 4096 0xFF) (replicate 64 0xFF)
 unfolding board placesOf upTo geometryOf

@@ -2,6 +2,7 @@ mod Asked
 mod Resting
 pub mod Typed
 pub mod Entering
+pub mod Seen
 pub mod Alone
 mod Stepping
 mod Event

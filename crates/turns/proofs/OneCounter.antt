@@ -28,7 +28,7 @@ use Rattle.board.proofs.Laws.{placed-most}
 use Rattle.lineup.specs.Chips.{noChip, chipAt, controlAt, placeOf, placesOf}
 use Rattle.bus.specs.declared.Bus.{Bus}
 use Rattle.bus.specs.Step.{entryChecks}
-use Rattle.bus.proofs.Typed.{OfItsType, count-fits, has-four, bus-typed, chip-typed}
+use Rattle.bus.proofs.Typed.{OfItsType, count-fits, has-four, values-typed, bus-typed, chip-typed}
 use Rattle.promises.proofs.Keeping.Good.{inside-of, unloaded-fits}
 use Rattle.promises.proofs.Formed.{formed-of, of-formed, entry-of, of-entry}
 use Rattle.turns.specs.Benches.{movedTo, shared}
@@ -50,18 +50,18 @@ module _ (at : ℕ) where
   counter-small part = omega (arith, counter-inside part, sound-of part .array-most)
 
   abbrev elsewhere : Chip → Chip
-  elsewhere c = record { control = arraycounterAt (at % geometryOf (c .control .part) .array) (c .control); load = c .load }
+  elsewhere c = record { control = arraycounterAt (at % geometryOf (c .control .part) .array) (c .control); span = c .span }
 
   -- what holds of a chip, and of it with its counter moved, holds of it after the fault
-  moves-or-stays : (P : Chip → Type 0) (c : Chip) → (isEmpty (c .load .span) ≡ true → P (elsewhere c)) → P c → P (movedTo at c)
-  moves-or-stays P c = either-if P (isEmpty (c .load .span)) (elsewhere c) c
+  moves-or-stays : (P : Chip → Type 0) (c : Chip) → (isEmpty (c .span) ≡ true → P (elsewhere c)) → P c → P (movedTo at c)
+  moves-or-stays P c = either-if P (isEmpty (c .span)) (elsewhere c) c
 
   -- a chip with no load may have its counter anywhere in its array
   still-formed : (c : Chip) → one-chip.wellFormed c ≡ true → one-chip.wellFormed (movedTo at c) ≡ true
   unfolding one-chip.wellFormed
   still-formed c formed = moves-or-stays (λ (d : Chip). one-chip.wellFormed d ≡ true) c moved formed
     where
-      moved : isEmpty (c .load .span) ≡ true → one-chip.wellFormed (elsewhere c) ≡ true
+      moved : isEmpty (c .span) ≡ true → one-chip.wellFormed (elsewhere c) ≡ true
       moved empty =
           let held : Control = c .control in
           let size : ℕ = geometryOf (held .part) .array in
@@ -73,7 +73,7 @@ module _ (at : ℕ) where
           (and-both _ _
           (and-both _ _ (and-left (isSetUp held) _ front) (and-both _ _ inside (and-right (ltb (held .arraycounter) size) _ counters)))
           (and-right (isSetUp held && countersFit held) _ fits))
-          (unloaded-fits (elsewhere c .control) (c .load) (inside-of held (c .load) (and-right (controlFits held) _ formed), empty))
+          (unloaded-fits (elsewhere c .control) (c .span) (inside-of held (c .span) (and-right (controlFits held) _ formed), empty))
 
   same-beside : (c d : Chip) → sideBySide (movedTo at c .control) (movedTo at d .control) ≡ sideBySide (c .control) (d .control)
   same-beside c d =
@@ -87,7 +87,7 @@ module _ (at : ℕ) where
 
   module _ (bus : Bus) (array security : List ℕ) (typed : OfItsType bus) where
     abbrev moved : Bus
-    moved = record { count = bus .count; chips = map (movedTo at) (bus .chips) }
+    moved = record { count = bus .count; chips = map (movedTo at) (bus .chips); values = bus .values }
 
     here : (i : ℕ) → i < 4 → chipAt (moved .chips) i ≡ movedTo at (chipAt (bus .chips) i)
     here i below = each-moves (bus .chips) i (omega (arith, has-four typed))
@@ -102,12 +102,13 @@ module _ (at : ℕ) where
     moved-typed : OfItsType moved
     moved-typed =
         let four : length (moved .chips) ≡ 4 = length-map (bus .chips) (movedTo at) ∙ has-four typed in
-        bus-typed (bus .count) (moved .chips) (count-fits typed) four
+        bus-typed (bus .count) (moved .chips) (bus .values) (count-fits typed) four
         (every-of ChipTyped (moved .chips) noChip (λ i below.
         let inside : i < 4 = omega (arith, below, four) in
         let own = chip-typed typed i inside in
         subst ChipTyped (sym (here i inside))
         (moves-or-stays ChipTyped (chipAt (bus .chips) i) (λ empty. counter-typed (chipAt (bus .chips) i) _ (counter-small (chipAt (bus .chips) i .control .part)) own) own)))
+        (values-typed typed)
 
     still-enters : firstOf (entryChecks bus array security) ≡ Passed → Entering (moved, array, security)
     still-enters passed =

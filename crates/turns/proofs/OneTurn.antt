@@ -5,7 +5,7 @@ use native.Mathlib.Decide.{decLt}
 use native.Mathlib.Omega.{arith}
 use mathlib.Core.Bool.{Bool, true, false}
 use mathlib.Core.List.{List, map}
-use mathlib.Core.Path.{_≡_, _∙_, refl, ap, subst}
+use mathlib.Core.Path.{_≡_, _∙_, refl, sym, ap, subst}
 use lib.Dec.{eqb, ltb}
 use lib.ListN.{getD}
 use borrow.Author.Tests.{eqb-true, eqb-false, ltb-true}
@@ -21,18 +21,21 @@ use Rattle.board.specs.Board.{sharedAddress, boardChecks, boardVerdict}
 use Rattle.board.proofs.Laws.{shared-sym}
 use Rattle.lineup.specs.Chips.{chipAt, placesOf}
 use Rattle.lineup.proofs.Laws.{place-at}
+use Rattle.bus.specs.declared.Bus.{Bus}
 use Rattle.bus.specs.Step.{step}
 use Rattle.bus.proofs.Entry.{Entered, entered}
 use Rattle.bus.proofs.Typed.{OfItsType}
 use Rattle.promises.specs.Playing.{World, after, answersTo}
 use Rattle.promises.proofs.Formed.{none-holds, formed-of}
 use Rattle.turns.specs.Idle.{isAtRest, isIdle}
+use Rattle.turns.specs.Seen.{seen}
 use Rattle.turns.specs.Turn.{Turn, Anything, isTurnAt, isTurn}
 use Rattle.turns.specs.Shuffle.{isExcepted}
 use Rattle.turns.specs.Alone.{alone, renamed}
 use Rattle.turns.specs.Undisturbed.{Ready}
 use Rattle.turns.proofs.Entering.{Idling, idling, ready-of}
-use Rattle.turns.proofs.Alone.{alone-enters}
+use Rattle.turns.proofs.Alone.{only-unloaded, alone-enters}
+use Rattle.turns.proofs.Bystander.{waiting-unloaded}
 use Rattle.turns.proofs.Others.{Others}
 use Rattle.turns.proofs.Typed.{alone-typed}
 use Rattle.turns.proofs.During.{During, excepted, Went}
@@ -91,7 +94,7 @@ module _ (began : World) (waits : Idling began) where
         board = refl;
         rest = λ i past. refl;
         heeds = tt;
-        others = λ j before differ. refl;
+        others = λ j before differ. ap (λ (bus : Bus). (bus, alone j began .1, alone j began .2)) (only-unloaded _ _ (waiting-unloaded (chipAt chips j) (at-rest j before) Anything));
       }
 
   went : (k : ℕ) (events : List ℕ) → k < count → isTurnAt (placeAt places k) k events ≡ true → Went k false events began began
@@ -110,7 +113,7 @@ pub record Leaves (began : World) (k : ℕ) (events : List ℕ) : Type 0 where
   pub board : placesOf (after step began events .0 .chips) ≡ placesOf (began .0 .chips)
   pub rest : (i : ℕ) → began .0 .count ≤ i → chipAt (after step began events .0 .chips) i ≡ chipAt (began .0 .chips) i
   pub others : (j : ℕ) → j < began .0 .count → (j ≡ k → ⊥) → alone j (after step began events) ≡ alone j began
-  pub own : alone k (after step began events) ≡ after step (alone k began) (map renamed events)
+  pub own : alone k (after step began events) ≡ seen (after step (alone k began) (map renamed events))
   pub answers : (i : ℕ) → isExcepted events i ≡ false
       → getD (answersTo step began events) i 0 ≡ getD (answersTo step (alone k began) (map renamed events)) i 0
 
@@ -123,7 +126,7 @@ turn-leaves began waits turn is =
       count = now .count;
       board = now .board;
       rest = now .rest;
-      others = now .others;
+      others = λ j before differ. now .others j before differ ∙ sym (begins began waits k .others j before differ);
       own = whole .moves;
       answers = λ i usual. whole .answers i (plain i usual);
     }

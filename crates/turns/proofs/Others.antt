@@ -19,7 +19,7 @@ use Rattle.promises.specs.Playing.{World}
 use Rattle.turns.specs.Idle.{isAtRest}
 use Rattle.turns.specs.Turn.{Anything, AddressByte, ChoiceByte, isAddressOf, isFirstByte}
 use Rattle.turns.specs.Alone.{alone}
-use Rattle.turns.proofs.Bystander.{hears-start, hears-f8, passes-first, passes-choice, passes-byte, passes-read, passes-stop, rest-clashes, waiting-sends-nothing}
+use Rattle.turns.proofs.Bystander.{hears-start, hears-f8, passes-first, passes-choice, passes-byte, passes-read, passes-stop, rest-clashes, waiting-sends-nothing, waiting-unloaded}
 use Rattle.turns.proofs.During.{SitsThrough}
 
 -- what they say to most events, and to F8h
@@ -51,27 +51,27 @@ module _ (k : ℕ) (place : Place) (began : World) (b : Others k place began) (j
   rest = b .at-rest j before
 
   pub sits-start : SitsThrough (ToAll Start) Anything AddressByte silent j began
-  sits-start = (refl, hears-start c a s)
+  sits-start = (refl, hears-start c _ a s, waiting-unloaded c rest)
 
   pub sits-stop : SitsThrough (ToAll Stop) Anything Anything silent j began
-  sits-stop = (refl, passes-stop c rest a s)
+  sits-stop = (refl, passes-stop c rest _ a s, waiting-unloaded c rest)
 
   pub sits-byte : (byte : ℕ) → SitsThrough (ToAll (Sent byte)) Anything Anything silent j began
-  sits-byte byte = (waiting-sends-nothing c rest Anything, passes-byte c rest a s byte)
+  sits-byte byte = (waiting-sends-nothing c rest Anything, passes-byte c rest _ a s byte, waiting-unloaded c rest)
 
   pub sits-read : (nack : Bool) → SitsThrough (ToAll (Read nack)) Anything Anything silent j began
-  sits-read nack = (rest-clashes c rest (Read nack), passes-read c rest a s nack)
+  sits-read nack = (rest-clashes c rest (Read nack), passes-read c rest _ a s nack, waiting-unloaded c rest)
 
   pub sits-named : (event : Event) → SitsThrough (ToOne k event) Anything Anything silent j began
-  sits-named event = (rest-clashes c rest event, rw (ne-eqb j k differ))
+  sits-named event = (rest-clashes c rest event, rw (ne-eqb j k differ), waiting-unloaded c rest)
 
   pub sits-first : (byte : ℕ) → isFirstByte place byte ≡ true → SitsThrough (ToAll (Sent byte)) AddressByte Anything silent j began
   sits-first byte is =
-      (waiting-sends-nothing c rest AddressByte, passes-first c rest a s place byte (b .unshared j before differ) is)
+      (waiting-sends-nothing c rest AddressByte, passes-first c rest _ a s place byte (b .unshared j before differ) is, waiting-unloaded c rest)
 
   pub sits-f8 : SitsThrough (ToAll (Sent 0xF8)) AddressByte ChoiceByte toF8 j began
-  sits-f8 = (waiting-sends-nothing c rest AddressByte, hears-f8 c rest a s)
+  sits-f8 = (waiting-sends-nothing c rest AddressByte, hears-f8 c rest _ a s, waiting-unloaded c rest)
 
   pub sits-choice : (byte : ℕ) → isAddressOf 0b1010 place byte ≡ true → SitsThrough (ToAll (Sent byte)) ChoiceByte Anything silent j began
   sits-choice byte is =
-      (waiting-sends-nothing c rest ChoiceByte, passes-choice c rest a s place byte (b .unshared j before differ) is)
+      (waiting-sends-nothing c rest ChoiceByte, passes-choice c rest _ a s place byte (b .unshared j before differ) is, waiting-unloaded c rest)

@@ -13,6 +13,7 @@ use Rattle.promises.proofs.Calls.{RunCall, runEnd, run-end-typed, Plays, Return
 use Rattle.promises.proofs.Playing.{answers-length}
 use Rattle.turns.specs.Turn.{Turn}
 use Rattle.turns.specs.Shuffle.{turnOf, beganAt, eventsOf, Shuffle, answerOf, isExcepted}
+use Rattle.turns.specs.Seen.{seen}
 use Rattle.turns.specs.Alone.{alone, ownTurns}
 use Rattle.turns.specs.Undisturbed.{Ready, Turns, Alike, AsAlone, acknowledge}
 use Rattle.turns.proofs.Alone.{alone-enters}
@@ -45,7 +46,7 @@ module _ (world : World) (ready : Ready world) (turns : List Turn) (are-turns : 
         ran .verdict,
         ran′ .verdict,
         record {
-          ends = ran .ends ∙ alike .ends ∙ sym (ran′ .ends);
+          ends = ap seen (ran .ends) ∙ alike .ends ∙ ap seen (sym (ran′ .ends));
           answers = λ k j i plain. own-answer turns ran k j i ∙ alike .answers k j i plain ∙ sym (own-answer others ran′ k j i);
         },
       )
@@ -60,7 +61,7 @@ module _ (world : World) (ready : Ready world) (turns : List Turn) (are-turns : 
         ran .verdict,
         ran′ .verdict,
         record {
-          ends = ap (alone k) (ran .ends) ∙ alike .ends ∙ sym (ran′ .ends);
+          ends = ap (alone k) (ran .ends) ∙ alike .ends ∙ ap seen (sym (ran′ .ends));
           answers = λ j i plain. own-answer turns ran k j i ∙ alike .answers j i plain ∙ sym (own-answer (ownTurns k turns) ran′ 0 j i);
         },
       )

@@ -5,9 +5,8 @@ use mathlib.Core.Bool.{Bool, true, false, cond, not, _&&_, _||_, false≢true}
 use mathlib.Core.List.{List}
 use mathlib.Core.Path.{_≡_, refl, ap}
 use Rattle.base.proofs.logic.Laws.{and-left, and-right, or-right, or-either, either-if, either}
-use Rattle.load.specs.declared.Load.{Load}
-use Rattle.load.specs.Span.{isEmpty}
-use Rattle.load.specs.Load as load
+use Rattle.load.specs.Span.{isEmpty, dropped}
+use Rattle.load.specs.Load.{Load, loadOf}
 use Rattle.control.specs.declared.Control.{Control}
 use Rattle.control.specs.declared.Said.the-variants.{Nothing, Ack}
 use Rattle.control.specs.declared.phase.Phase.{Phase}
@@ -39,7 +38,7 @@ use Rattle.turns.proofs.Bystander.{woken}
 -- a Stop ends the exchange without a cycle or with one, and the load is gone
 module _ (held : Load) where
   abbrev Rests : Control → Type 0
-  Rests c = isAtRest (record { control = c; load = load.emptied held }) ≡ true
+  Rests c = isAtRest (record { control = c; span = dropped (held .span) }) ≡ true
 
   standby-now-rests : (c : Control) → Rests (standbyNow c)
   standby-now-rests c = refl
@@ -56,51 +55,51 @@ module _ (held : Load) where
   came-rests More c = standby-now-rests c
 
   data-rests : (kind : Data) (c : Control) (a s : List ℕ) → Rests (stopData kind c held a s .0)
-  data-rests ToArray c a s = either (λ (x : Control × List ℕ). Rests (x .0)) (writesArray c held) _ _ (busy-now-rests c) (standby-now-rests c)
-  data-rests ToSecurity c a s = either (λ (x : Control × List ℕ). Rests (x .0)) (writesSecurity c held) _ _ (busy-now-rests c) (standby-now-rests c)
+  data-rests ToArray c a s = either (λ (x : Control × List ℕ). Rests (x .0)) (writesArray c (held .span)) _ _ (busy-now-rests c) (standby-now-rests c)
+  data-rests ToSecurity c a s = either (λ (x : Control × List ℕ). Rests (x .0)) (writesSecurity c (held .span)) _ _ (busy-now-rests c) (standby-now-rests c)
   data-rests (ToConfiguration came) c a s = came-rests came c
   data-rests (ToLock some) c a s = either Rests (some && not (c .idlocked)) _ _ (busy-now-rests (idlockedNow c)) (standby-now-rests c)
   data-rests ToNowhere c a s = standby-now-rests c
 
 -- a busy chip takes no notice, but it is not chosen and holds no load
-pub stop-rests : (c : Chip) (a s : List ℕ) → wellFormed c ≡ true → isAtRest (step c a s Stop .0 .chip) ≡ true
+pub stop-rests : (c : Chip) (v a s : List ℕ) → wellFormed c ≡ true → isAtRest (step c v a s Stop .0 .chip) ≡ true
 unfolding step stop wellFormed
-stop-rests c a s formed =
+stop-rests c v a s formed =
     either-if (λ (x : Chip × List ℕ × List ℕ). isAtRest (x .0) ≡ true) (isBusy (c .control .phase)) (c, a, s) _
     (λ busy. let is = busy-is (c .control .phase) busy in rw (is, empty is, rw is at unchosen))
-    (stop-either (c .control) (c .load) a s (λ (x : Control × List ℕ × List ℕ). Rests (c .load) (x .0)) (c .control .phase)
+    (stop-either (c .control) (loadOf (c .span) v) a s (λ (x : Control × List ℕ × List ℕ). Rests (loadOf (c .span) v) (x .0)) (c .control .phase)
     (λ is. rw (is, rw is at unchosen))
-    (standby-now-rests (c .load) (c .control))
-    (λ kind takes. data-rests (c .load) kind (c .control) a s))
+    (standby-now-rests (loadOf (c .span) v) (c .control))
+    (λ kind takes. data-rests (loadOf (c .span) v) kind (c .control) a s))
   where
-    empty : c .control .phase ≡ Busy → isEmpty (c .load .span) ≡ true
-    empty is = unloaded-of (c .control) (c .load) (ap takesData is) (and-right (controlFits (c .control)) _ formed) .1
+    empty : c .control .phase ≡ Busy → isEmpty (c .span) ≡ true
+    empty is = unloaded-of (c .control) (c .span) (ap takesData is) (and-right (controlFits (c .control)) _ formed) .1
 
     unchosen : busyNotChosen (c .control) ≡ true
     unchosen =
         and-right (unusedBitsClear (c .control) && placeFits (c .control .phase)) _
         (and-right (isSetUp (c .control) && countersFit (c .control)) _ (and-left _ _ formed))
 
-pub named-rests : (c : Chip) (a s : List ℕ) (event : Event) → isNamed event ≡ true → isAtRest c ≡ true → isAtRest (step c a s event .0 .chip) ≡ true
+pub named-rests : (c : Chip) (v a s : List ℕ) (event : Event) → isNamed event ≡ true → isAtRest c ≡ true → isAtRest (step c v a s event .0 .chip) ≡ true
 unfolding step
-named-rests c a s Start named rest = absurd (false≢true named)
-named-rests c a s Stop named rest = absurd (false≢true named)
-named-rests c a s (Sent byte) named rest = absurd (false≢true named)
-named-rests c a s (Read nack) named rest = absurd (false≢true named)
-named-rests c a s (Wp level) named rest = rest
-named-rests c a s CycleOver named rest =
+named-rests c v a s Start named rest = absurd (false≢true named)
+named-rests c v a s Stop named rest = absurd (false≢true named)
+named-rests c v a s (Sent byte) named rest = absurd (false≢true named)
+named-rests c v a s (Read nack) named rest = absurd (false≢true named)
+named-rests c v a s (Wp level) named rest = rest
+named-rests c v a s CycleOver named rest =
     either (λ (d : Chip). isAtRest d ≡ true) (isBusy (c .control .phase)) _ c
     (and-right (not (isSending (c .control .phase)) && not (isTaking (c .control .phase))) _ rest)
     rest
-named-rests c a s PowerUp named rest = absurd (false≢true named)
+named-rests c v a s PowerUp named rest = absurd (false≢true named)
 
 -- a chip awaits an address byte or is busy: so after a Start, and then F8h leaves it sending nothing
 abbrev pub isHeeding : Phase → Bool
 isHeeding phase = awaitsAddress phase || isBusy phase
 
-pub start-heeds : (c : Chip) (a s : List ℕ) → isHeeding (step c a s Start .0 .chip .control .phase) ≡ true
+pub start-heeds : (c : Chip) (v a s : List ℕ) → isHeeding (step c v a s Start .0 .chip .control .phase) ≡ true
 unfolding step
-start-heeds c a s = go (isBusy (c .control .phase)) refl
+start-heeds c v a s = go (isBusy (c .control .phase)) refl
   where
     go : (busy : Bool) → isBusy (c .control .phase) ≡ busy → isHeeding (cond busy c (woken AwaitsAddress c) .control .phase) ≡ true
     go true is = or-right (awaitsAddress (c .control .phase)) _ is
@@ -115,15 +114,15 @@ heeds phase heeding P address busy =
 pub heeding-sends-nothing : (phase : Phase) → isHeeding phase ≡ true → isSending phase ≡ false
 heeding-sends-nothing phase heeding = heeds phase heeding (λ (p : Phase). isSending p ≡ false) refl refl
 
-module _ (c : Chip) (a s : List ℕ) (heeding : isHeeding (c .control .phase) ≡ true) where
-  pub f8-heeds : isSending (step c a s (Sent 0xF8) .0 .chip .control .phase) ≡ false
+module _ (c : Chip) (v a s : List ℕ) (heeding : isHeeding (c .control .phase) ≡ true) where
+  pub f8-heeds : isSending (step c v a s (Sent 0xF8) .0 .chip .control .phase) ≡ false
   unfolding step taking.take takeAddress callOf
   f8-heeds =
       heeds (c .control .phase) heeding (λ (p : Phase). isSending (taking.takeIn p (c .control) 0xF8 .control .phase) ≡ false)
       refl
       (heeding-sends-nothing (c .control .phase) heeding)
 
-  pub f8-said : step c a s (Sent 0xF8) .0 .said ≡ cond (isBusy (c .control .phase)) Nothing Ack
+  pub f8-said : step c v a s (Sent 0xF8) .0 .said ≡ cond (isBusy (c .control .phase)) Nothing Ack
   unfolding step taking.take takeAddress callOf
   f8-said =
       heeds (c .control .phase) heeding (λ (p : Phase). taking.takeIn p (c .control) 0xF8 .said ≡ cond (isBusy p) Nothing Ack)

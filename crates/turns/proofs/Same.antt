@@ -1,14 +1,16 @@
--- Two worlds that are the same at every chip are the same: the chips are, so their places are; and a store of the right length is its
+-- Two worlds that are the same at every chip, and hold no load, show the same: the chips are, so their places are; and a store of the right length is its
 -- shares end to end.
 use Prim.Native.Nat.{ℕ, zero, suc, _<_, _≤_}
 use native.Mathlib.Decide.{decLt}
 use native.Mathlib.Omega.{arith}
+use mathlib.Core.Bool.{false}
 use mathlib.Core.List.{List}
 use mathlib.Core.Path.{_≡_, _∙_, refl, sym, ap}
 use lib.ListN.{length, take}
 use lib.Seq.{take-add, take-all, ext-getD}
 use Rattle.base.specs.Fold.{upTo}
 use Rattle.base.specs.Store.{span}
+use Rattle.load.specs.Load.{noValues}
 use Rattle.parts.specs.declared.part.Geometry.{Geometry}
 use Rattle.refusal.specs.declared.Verdict.the-variants.{Passed}
 use Rattle.refusal.specs.Checks.{firstOf}
@@ -20,6 +22,7 @@ use Rattle.bus.specs.declared.Bus.{Bus}
 use Rattle.bus.specs.Step.{entryChecks}
 use Rattle.bus.proofs.Entry.{Entered, entered}
 use Rattle.promises.specs.Playing.{World}
+use Rattle.turns.specs.Seen.{anyLoading, seenOf, seen}
 use Rattle.turns.specs.Alone.{alone}
 
 module _ (share : ℕ → ℕ) where
@@ -48,8 +51,10 @@ pub same-world : (one other : World) → length (one .0 .chips) ≡ 4 → length
     → firstOf (entryChecks (other .0) (other .1) (other .2)) ≡ Passed
     → ((i : ℕ) → one .0 .count ≤ i → chipAt (one .0 .chips) i ≡ chipAt (other .0 .chips) i)
     → ((k : ℕ) → k < one .0 .count → alone k one ≡ alone k other)
-    → one ≡ other
-same-world one other four four′ counts enters enters′ past each =
+    → anyLoading (one .0) ≡ false
+    → anyLoading (other .0) ≡ false
+    → seen one ≡ seen other
+same-world one other four four′ counts enters enters′ past each none none′ =
     let there : Entered (other .0) (other .1) (other .2) = entered (other .0) (other .1) (other .2) enters′ in
     let array : one .1 ≡ other .1 = same-held (λ g. g .array) _ _ (here .array-fits) (there .array-fits) (λ i below. ap (λ (world : World). world .1) (each i below)) in
     let security : one .2 ≡ other .2 = same-held (λ g. g .security) _ _ (here .security-fits) (there .security-fits) (λ i below. ap (λ (world : World). world .2) (each i below)) in
@@ -59,10 +64,15 @@ same-world one other four four′ counts enters enters′ past each =
     same-chip i (yes p) = ap (λ (world : World). chipAt (world .0 .chips) 0) (each i p)
     same-chip i (no p) = past i (omega arith)
 
-    same-bus : one .0 ≡ other .0
-    same-bus =
-        let chips = ext-getD noChip (one .0 .chips) (other .0 .chips) (four ∙ sym four′) (λ i below. same-chip i (decLt i (one .0 .count))) in
-        λ j. record { count = counts j; chips = chips j }
+    same-chips : one .0 .chips ≡ other .0 .chips
+    same-chips = ext-getD noChip (one .0 .chips) (other .0 .chips) (four ∙ sym four′) (λ i below. same-chip i (decLt i (one .0 .count)))
+
+    -- on both no chip holds a load
+    unloaded : (bus : Bus) → anyLoading bus ≡ false → seenOf bus ≡ record { count = bus .count; chips = bus .chips; values = noValues }
+    unloaded bus empty = rw empty
+
+    same-bus : seenOf (one .0) ≡ seenOf (other .0)
+    same-bus = unloaded (one .0) none ∙ (λ j. record { count = counts j; chips = same-chips j; values = noValues }) ∙ sym (unloaded (other .0) none′)
 
     here : Entered (one .0) (one .1) (one .2)
     here = entered (one .0) (one .1) (one .2) enters

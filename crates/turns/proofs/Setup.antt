@@ -12,6 +12,7 @@ use Rattle.base.specs.Fold.{allBelow}
 use Rattle.base.specs.Every.{Every}
 use Rattle.base.proofs.Fold.{up-keeps, all-each}
 use Rattle.base.proofs.Every.{every-set}
+use Rattle.load.specs.Load.{noValues}
 use Rattle.control.specs.declared.phase.Phase.the-variants.{Standby}
 use Rattle.chip.specs.declared.Chip.{Chip}
 use Rattle.chip.specs.Chip.{fresh}
@@ -31,7 +32,7 @@ use Rattle.promises.proofs.Calls.{SetUpCall, set-up-typed}
 use Rattle.promises.proofs.Setup.{set-up-is-well-formed}
 use Rattle.turns.specs.Idle.{isAtRest, isIdle}
 use Rattle.turns.specs.Undisturbed.{Ready}
-use Rattle.turns.proofs.Typed.{standby-typed, fresh-typed, unloaded-typed, empty-typed}
+use Rattle.turns.proofs.Typed.{standby-typed, fresh-typed, unloaded-typed, empty-typed, no-values-typed}
 
 fresh-rests : (part strap : ℕ) → isAtRest (fresh part strap) ≡ true
 fresh-rests part strap = refl
@@ -72,9 +73,10 @@ set-up-is-typed count places array security fits bytes = go (firstOf (setUpCheck
 
     go : (verdict : Verdict) → OfItsType (setUpBy verdict count places .bus)
     go Passed =
-        bus-typed count (freshChips places (placed count)) fits (filled-length freshAt (replicate 4 emptyChip) (placed count))
+        bus-typed count (freshChips places (placed count)) noValues fits (filled-length freshAt (replicate 4 emptyChip) (placed count))
         (up-keeps _ (Every ChipTyped) (λ i chips so-far. every-set ChipTyped chips i (freshAt i) so-far (typed-at i)) (placed count) (replicate 4 emptyChip) none)
-    go (Refused refusal) = bus-typed 0 (replicate 4 emptyChip) (lit< tt) refl none
+        no-values-typed
+    go (Refused refusal) = bus-typed 0 (replicate 4 emptyChip) noValues (lit< tt) refl none no-values-typed
 
 -- the same of a call of `Bus::set_up`
 module _ (call : SetUpCall) where

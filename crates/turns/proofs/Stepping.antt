@@ -15,7 +15,7 @@ use Rattle.refusal.specs.Checks.{firstOf}
 use Rattle.decode.specs.declared.Addressed.{Addressed}
 use Rattle.decode.specs.declared.Addressed.the-variants.{ToAll}
 use Rattle.lineup.specs.Chips.{chipAt, placesOf}
-use Rattle.line.specs.Line.{clash, lineChecks}
+use Rattle.line.specs.Line.{clash, lineChecks, valuesAfter}
 use Rattle.bus.specs.Step.{eventChecks, refused, played, stepBy, event, step}
 use Rattle.bus.proofs.Entry.{Entered, entered}
 use Rattle.bus.proofs.Typed.{has-four}
@@ -82,17 +82,17 @@ module _ (world : World) (word : ℕ) (addressed : Addressed) (e : Entering worl
   unfolding played
   rest-kept i past =
       led (λ (next : World). chipAt (next .0 .chips) i ≡ chipAt chips i) refl
-      (the-rest-stays addressed count chips (world .1) (world .2) (has-four (e .typed)) (entry .array-fits) (entry .security-fits) i (omega (arith, entry .all-placed)))
+      (the-rest-stays addressed count chips (world .0 .values) (world .1) (world .2) (has-four (e .typed)) (entry .array-fits) (entry .security-fits) i (omega (arith, entry .all-placed)))
 
   -- played, each chip has made its own step
   pub each-moves : lineVerdict addressed world ≡ Passed → (i : ℕ) → i < world .0 .count
-      → let mine = own addressed (world .0 .chips) (world .1) (world .2) i in alone i (afterOne step world word) ≡ (onlyBus (mine .0 .chip), mine .1, mine .2)
+      → let mine = own addressed (world .0 .chips) (world .0 .values) (world .1) (world .2) i in alone i (afterOne step world word) ≡ (onlyBus (mine .0 .chip) (valuesAfter addressed (world .0 .count) (world .0 .chips) (world .0 .values)), mine .1, mine .2)
   unfolding played
   each-moves is i below =
-      let (chip-is, array-is, security-is) = each-chip-takes-its-own addressed count chips (world .1) (world .2) (has-four (e .typed)) (entry .array-fits) (entry .security-fits) i (omega (arith, entry .all-placed)) in
+      let (chip-is, array-is, security-is) = each-chip-takes-its-own addressed count chips (world .0 .values) (world .1) (world .2) (has-four (e .typed)) (entry .array-fits) (entry .security-fits) i (omega (arith, entry .all-placed)) in
       ap (λ (next : Made). alone i (ledTo next)) (step-plays is)
       ∙ rw (
-        places-stay addressed count chips (world .1) (world .2) (has-four (e .typed)) (entry .array-fits) (entry .security-fits),
+        places-stay addressed count chips (world .0 .values) (world .1) (world .2) (has-four (e .typed)) (entry .array-fits) (entry .security-fits),
         chip-is,
         array-is,
         security-is,

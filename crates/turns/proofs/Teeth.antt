@@ -14,6 +14,7 @@ use Rattle.lineup.specs.Wellformed.{wellFormed}
 use Rattle.bus.specs.Step.{step}
 use Rattle.bus.proofs.Typed.{OfItsType}
 use Rattle.promises.specs.Playing.{World, Made, Bench, ledTo, after, answersTo}
+use Rattle.turns.specs.Seen.{seen}
 use Rattle.turns.specs.Turn.{Turn, isF8}
 use Rattle.turns.specs.Shuffle.{eventsOf, turnsOf, answerOf, isExcepted, Shuffle}
 use Rattle.turns.specs.Alone.{alone, renamed, ownTurns}
@@ -55,7 +56,7 @@ secondAddressed = of 1 (0x0100 ∷ 0x03A2 ∷ 0x0300 ∷ 0x0307 ∷ 0x0200 ∷ [
 
 -- nor do all ends agree: the first chip's counter is then the one that came last
 pub one-counter-ends-apart : ((world : World) (turns others : List Turn) → OfItsType (world .0) → Ready world → Turns world turns → Shuffle turns others
-    → after (oneCounter step) world (eventsOf turns) ≡ after (oneCounter step) world (eventsOf others)) → ⊥
+    → seen (after (oneCounter step) world (eventsOf turns)) ≡ seen (after (oneCounter step) world (eventsOf others))) → ⊥
 unfolding eventByEvent
 one-counter-ends-apart agree =
     let typed = pairs-are-typed .0 in
@@ -63,7 +64,7 @@ one-counter-ends-apart agree =
     let one : List Turn = firstAddressed ∷ secondAddressed ∷ [] in
     let other : List Turn = secondAddressed ∷ firstAddressed ∷ [] in
     let ends = computed shared shared-keeps (pair free free) (idling typed ready .entering) in
-    let same = sym (ends (eventsOf one) .0) ∙ agree (pair free free) one other typed ready refl (swapped _ _) ∙ ends (eventsOf other) .0 in
+    let same = sym (ap seen (ends (eventsOf one) .0)) ∙ agree (pair free free) one other typed ready refl (swapped _ _) ∙ ap seen (ends (eventsOf other) .0) in
     eqb-false _ _ refl (ap (λ (world : World). controlAt (world .0 .chips) 0 .arraycounter) same)
 
 -- F8h in a turn of the first chip

@@ -43,7 +43,7 @@ module _ (k : ℕ) (place : Place) (began : World) (b : Others k place began) wh
       (λ none c. refl)
       refl
       (λ refusal is. absurd (true≢false (ap isPassed (sym (calm-alone k now Stop refl) ∙ is))))
-      (stop-rests _ _ _ (formed-of (now .0 .count) (now .0 .chips) (entry .formed) .fit k (omega (arith, b .below, d .count, entry .all-placed))))
+      (stop-rests _ _ _ _ (formed-of (now .0 .count) (now .0 .chips) (entry .formed) .fit k (omega (arith, b .below, d .count, entry .all-placed))))
 
   -- an event by itself that names k: refused it leaves k as it was
   pub named-leads : (word : ℕ) → isNaming k word ≡ true → During k Anything began began → Went k false (word ∷ []) began began
@@ -53,7 +53,7 @@ module _ (k : ℕ) (place : Place) (began : World) (b : Others k place began) wh
       (λ none c. refl)
       refl
       (λ refusal is. (refl, b .at-rest k (b .below)))
-      (named-rests _ _ _ event named (b .at-rest k (b .below)))
+      (named-rests _ _ _ _ event named (b .at-rest k (b .below)))
 
   module _ (word : ℕ) (more : List ℕ) where
     start-leads : isStart word ≡ true → Leads AddressByte more → Leads Anything (word ∷ more)
@@ -63,7 +63,7 @@ module _ (k : ℕ) (place : Place) (began : World) (b : Others k place began) wh
         more
         (later (isStart word) (afterOne step now word) is)
         (calm-alone k now Start refl)
-        (start-heeds (chipAt (now .0 .chips) k) (alone k now .1) (alone k now .2))
+        (start-heeds (chipAt (now .0 .chips) k) (now .0 .values) (alone k now .1) (alone k now .2))
 
     -- between, refused or not
     between-leads : Leads Anything more → (started : Bool) (now : World) (d : During k Anything began now) (addressed : Addressed) → Asked (now .0 .count) word addressed → reaches addressed k ≡ true
@@ -99,7 +99,7 @@ module _ (k : ℕ) (place : Place) (began : World) (b : Others k place began) wh
         more
         (later (isStart word) (afterOne step now word) tt)
         (calm-alone k now (Sent 0xF8) (heeding-sends-nothing (controlAt (now .0 .chips) k .phase) (d .heeds)))
-        (f8-heeds (chipAt (now .0 .chips) k) (alone k now .1) (alone k now .2) (d .heeds))
+        (f8-heeds (chipAt (now .0 .chips) k) (now .0 .values) (alone k now .1) (alone k now .2) (d .heeds))
 
     choice-leads : isSent word ≡ true → isAddressOf 0b1010 place (valueOf word) ≡ true → Leads Anything more → Leads ChoiceByte (word ∷ more)
     choice-leads is named later started now flag d =

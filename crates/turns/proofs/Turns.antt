@@ -14,13 +14,16 @@ use Rattle.bus.specs.Step.{step}
 use Rattle.bus.proofs.Typed.{OfItsType}
 use Rattle.promises.specs.Playing.{World, after, answersTo}
 use Rattle.promises.proofs.Playing.{after-append}
+use Rattle.turns.specs.Seen.{seen}
 use Rattle.turns.specs.Turn.{Turn, isTurn}
 use Rattle.turns.specs.Shuffle.{areTurns, eventsOf, turnsOf, answersOf, isExcepted}
 use Rattle.turns.specs.Alone.{alone, renamed, ownTurn, ownTurns}
 use Rattle.turns.specs.Undisturbed.{Ready, Turns}
-use Rattle.turns.proofs.Entering.{Idling, idling, ready-of}
+use Rattle.turns.proofs.Entering.{entering-after, Idling, idling, ready-of}
+use Rattle.turns.proofs.Seen.{never-seen}
+use Rattle.turns.proofs.Alone.{alone-seen}
 use Rattle.turns.proofs.Lists.{answers-cut}
-use Rattle.turns.proofs.OneTurn.{Leaves, turn-leaves}
+use Rattle.turns.proofs.OneTurn.{Leaves, turn-leaves, alone-idles}
 
 -- what turns keep from one world to another: a bus that waits for turns, its count and the places past it
 pub record Passes (world ends : World) : Type 0 where
@@ -42,12 +45,17 @@ module _ (world : World) (waits : Idling world) (turn : Turn) (rest : List Turn)
   are-later = rw (leaves .count, leaves .board) (and-right (isTurn (world .0 .count) (placesOf (world .0 .chips)) turn) _ are)
 
   -- its chip's world then, and another's
-  own-next : (k : ℕ) → turn .chip ≡ k → alone k next ≡ after step (alone k world) (map renamed (turn .events))
-  own-next k same = subst (λ (n : ℕ). alone n next ≡ after step (alone n world) (map renamed (turn .events))) same (leaves .own)
+  own-next : (k : ℕ) → turn .chip ≡ k → alone k next ≡ seen (after step (alone k world) (map renamed (turn .events)))
+  own-next k same = subst (λ (n : ℕ). alone n next ≡ seen (after step (alone n world) (map renamed (turn .events)))) same (leaves .own)
 
   own-answers : (k : ℕ) → turn .chip ≡ k → (i : ℕ) → isExcepted (turn .events) i ≡ false
       → getD (answersTo step world (turn .events)) i 0 ≡ getD (answersTo step (alone k world) (map renamed (turn .events))) i 0
   own-answers k same i usual = subst (λ (n : ℕ). getD (answersTo step world (turn .events)) i 0 ≡ getD (answersTo step (alone n world) (map renamed (turn .events))) i 0) same (leaves .answers i usual)
+
+  -- whose values are not seen in what follows
+  own-unseen : (k : ℕ) → k < world .0 .count → (events : List ℕ) → let then = after step (alone k world) (map renamed (turn .events)) in
+      (answersTo step (seen then) events ≡ answersTo step then events) × (seen (after step (seen then) events) ≡ seen (after step then events))
+  own-unseen k below events = never-seen events _ (entering-after (map renamed (turn .events)) (alone k world) (alone-idles world waits k below .entering))
 
   other-next : (k : ℕ) → k < world .0 .count → (turn .chip ≡ k → ⊥) → alone k next ≡ alone k world
   other-next k below differ = leaves .others k below (λ (is : k ≡ turn .chip). differ (sym is))
@@ -72,9 +80,9 @@ pub turns-end-ready : (turns : List Turn) (world : World) → OfItsType (world .
 turns-end-ready turns world typed ready are = ready-of (turns-pass turns world (idling typed ready) are .waits)
 
 pub ends-alone : (turns : List Turn) (world : World) → Idling world → Turns world turns → (k : ℕ) → k < world .0 .count
-    → alone k (after step world (eventsOf turns)) ≡ after step (alone k world) (eventsOf (ownTurns k turns))
+    → alone k (after step world (eventsOf turns)) ≡ seen (after step (alone k world) (eventsOf (ownTurns k turns)))
 unfolding after eventsOf turnsOf
-ends-alone [] world waits are k below = refl
+ends-alone [] world waits are k below = sym (alone-seen k world)
 ends-alone (turn ∷ rest) world waits are k below =
     let first = leaves world waits turn rest are in
     ap (alone k) (after-append step world (turn .events) (eventsOf rest))
@@ -82,12 +90,13 @@ ends-alone (turn ∷ rest) world waits are k below =
     ∙ go (eqb (turn .chip) k) refl
   where
     go : (same : Bool) → eqb (turn .chip) k ≡ same
-        → after step (alone k (after step world (turn .events))) (eventsOf (ownTurns k rest))
-        ≡ after step (alone k world) (eventsOf (map ownTurn (cond same (turn .events ∷ turnsOf k rest) (turnsOf k rest))))
+        → seen (after step (alone k (after step world (turn .events))) (eventsOf (ownTurns k rest)))
+        ≡ seen (after step (alone k world) (eventsOf (map ownTurn (cond same (turn .events ∷ turnsOf k rest) (turnsOf k rest)))))
     go true is =
-        ap (λ (w : World). after step w (eventsOf (ownTurns k rest))) (own-next world waits turn rest are k (eqb-true _ _ is))
-        ∙ sym (after-append step (alone k world) (map renamed (turn .events)) (eventsOf (ownTurns k rest)))
-    go false is = ap (λ (w : World). after step w (eventsOf (ownTurns k rest))) (other-next world waits turn rest are k below (eqb-false _ _ is))
+        ap (λ (w : World). seen (after step w (eventsOf (ownTurns k rest)))) (own-next world waits turn rest are k (eqb-true _ _ is))
+        ∙ own-unseen world waits turn rest are k below (eventsOf (ownTurns k rest)) .1
+        ∙ ap seen (sym (after-append step (alone k world) (map renamed (turn .events)) (eventsOf (ownTurns k rest))))
+    go false is = ap (λ (w : World). seen (after step w (eventsOf (ownTurns k rest)))) (other-next world waits turn rest are k below (eqb-false _ _ is))
 
 -- the answers to the turns of chip k, in the list and alone
 module _ (k : ℕ) where
@@ -131,5 +140,6 @@ module _ (k : ℕ) where
           subst (Same (turn .events ∷ own) (answersTo step world (turn .events) ∷ inList next rest)) (sym (answers-cut step (alone k world) 0 (ownTurn (turn .events)) (map ownTurn own)))
           (same-more (turn .events) own (answersTo step world (turn .events)) (answersTo step (alone k world) (map renamed (turn .events))) (inList next rest) (inOwn (after step (alone k world) (map renamed (turn .events))) own)
           (own-answers world waits turn rest are k (eqb-true _ _ is))
-          (subst (λ (w : World). Same own (inList next rest) (inOwn w own)) (own-next world waits turn rest are k (eqb-true _ _ is)) later))
+          (subst (λ (answers : List ℕ). Same own (inList next rest) (answersOf 0 (map ownTurn own) answers)) (own-unseen world waits turn rest are k below (eventsOf (map ownTurn own)) .0)
+          (subst (λ (w : World). Same own (inList next rest) (inOwn w own)) (own-next world waits turn rest are k (eqb-true _ _ is)) later)))
       go false is later = subst (λ (w : World). Same own (inList next rest) (inOwn w own)) (other-next world waits turn rest are k below (eqb-false _ _ is)) later

@@ -1,6 +1,6 @@
 -- Chips without a load that are values of their type, well formed or not: where part and strap are bytes, a fresh one is, in
--- standby or busy and with WP low or high; and so is a chip with another array counter. So a bus of one chip of a bus is of its
--- type.
+-- standby or busy and with WP low or high; and so is a chip with another array counter. The values where no byte has come are of
+-- theirs. So a bus of one chip of a bus is of its type.
 use Prim.Native.Nat.{ℕ, zero, suc, _<_, _^_}
 use mathlib.Core.Bool.{Bool, false}
 use mathlib.Core.List.{[], _∷_}
@@ -9,8 +9,10 @@ use lib.Dec.{lit<, lit≤}
 use lib.ListN.{replicate, length-replicate}
 use mir.Val.{Val}
 use denote.Laws.{Is}
-use Rattle.base.specs.Every.{Every, FitsByte}
-use Rattle.load.specs.Load as load
+use Rattle.base.specs.Every.{AllBytes}
+use Rattle.base.proofs.logic.Laws.{either}
+use Rattle.load.specs.Span.{emptySpan}
+use Rattle.load.specs.Load.{noValues}
 use Rattle.control.specs.declared.Control.{Control}
 use Rattle.control.specs.declared.phase.Phase.{Phase}
 use Rattle.control.specs.declared.phase.Phase.the-variants.{Standby, Busy}
@@ -19,10 +21,12 @@ use Rattle.control.proofs.Control as controls
 use Rattle.control.proofs.phase.Phase as phases
 use Rattle.chip.specs.declared.Chip.{Chip}
 use Rattle.chip.proofs.Typed.{ChipTyped}
-use Rattle.promises.proofs.Keeping.Typed.{load-typed}
+use Rattle.promises.proofs.Keeping.Typed.{span-typed}
+use Rattle.lineup.specs.Chips.{chipAt}
 use Rattle.bus.specs.Setup.{emptyChip}
-use Rattle.bus.proofs.Typed.{OfItsType, bus-typed, chip-typed}
+use Rattle.bus.proofs.Typed.{OfItsType, ValuesTyped, values-typed, bus-typed, chip-typed}
 use Rattle.promises.specs.Playing.{World}
+use Rattle.turns.specs.Idle.{isLoading}
 use Rattle.turns.specs.Alone.{alone}
 
 abbrev pub ControlTyped : Control → Type 0
@@ -74,21 +78,16 @@ fresh-typed part strap fits fits′ level phase typed = (
   ),
 )
 
-zeros : (n : ℕ) → Every FitsByte (replicate n 0)
-zeros zero = tt
-zeros (suc n) = (lit< tt, zeros n)
-
 -- without a load
-pub unloaded-typed : (c : Control) → ControlTyped c → ChipTyped (record { control = c; load = load.empty })
+pub unloaded-typed : (c : Control) → ControlTyped c → ChipTyped (record { control = c; span = emptySpan })
 unloaded-typed c typed =
-    let held = load-typed load.empty 256 (lit≤ tt) refl (length-replicate {A = ℕ} 256 0) (zeros 256) in
-    record { value = _; is = ((_, (_, tt)), (refl, (typed .1, (held .1, tt)))) }
+    record { value = _; is = ((_, (_, tt)), (refl, (typed .1, (span-typed emptySpan 256 (lit≤ tt) refl .1, tt)))) }
 
 pub empty-typed : ChipTyped emptyChip
 empty-typed = unloaded-typed (fresh 0 0) (fresh-typed 0 0 (lit< tt) (lit< tt) false Standby standby-typed)
 
 -- with its array counter elsewhere
-pub counter-typed : (c : Chip) (at : ℕ) → at < 2 ^ 32 → ChipTyped c → ChipTyped (record { control = arraycounterAt at (c .control); load = c .load })
+pub counter-typed : (c : Chip) (at : ℕ) → at < 2 ^ 32 → ChipTyped c → ChipTyped (record { control = arraycounterAt at (c .control); span = c .span })
 counter-typed c at fits typed =
     let f = typed .is .1 .1 .0 .1 .1 in
     record {
@@ -135,6 +134,16 @@ counter-typed c at fits typed =
       );
     }
 
--- a chip of a bus, alone on the line
+-- the values where no byte has come
+zeros : (n : ℕ) → AllBytes (replicate n 0)
+zeros zero = tt
+zeros (suc n) = (lit< tt, zeros n)
+
+pub no-values-typed : ValuesTyped noValues
+no-values-typed = record { long = length-replicate {A = ℕ} 256 0; bytes = zeros 256 }
+
+-- a chip of a bus, alone on the line: its values are the bus's, or those
 pub alone-typed : (world : World) (k : ℕ) → k < 4 → OfItsType (world .0) → OfItsType (alone k world .0)
-alone-typed world k below typed = bus-typed 1 _ (lit< tt) refl (chip-typed typed k below, (empty-typed, (empty-typed, (empty-typed, tt))))
+alone-typed world k below typed =
+    bus-typed 1 _ _ (lit< tt) refl (chip-typed typed k below, (empty-typed, (empty-typed, (empty-typed, tt))))
+    (either ValuesTyped (isLoading (chipAt (world .0 .chips) k)) (world .0 .values) noValues (values-typed typed) no-values-typed)

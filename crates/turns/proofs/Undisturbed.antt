@@ -1,19 +1,24 @@
 -- Demand 3: chips do not disturb each other. Whatever the order, each chip ends as it does by itself, and worlds that are the same at every
--- chip are the same.
+-- chip and hold no load show the same.
 use Prim.Native.Nat.{ℕ, _+_, _<_, _≤_}
 use native.Mathlib.Decide.{decLt}
 use native.Mathlib.Omega.{arith}
-use mathlib.Core.Bool.{true, false}
+use mathlib.Core.Bool.{true, false, not, _&&_}
 use mathlib.Core.List.{List, [], _∷_, map}
 use mathlib.Core.Path.{_≡_, _∙_, refl, sym, ap}
 use lib.ListN.{length, getD, drop}
-use borrow.Author.Tests.{ltb-true, ne-eqb}
+use borrow.Author.Tests.{ltb-true, ne-eqb, not-true}
 use Rattle.base.proofs.logic.Laws.{and-left, and-right}
+use Rattle.base.proofs.Fold.{all-at, none-any}
+use Rattle.control.specs.Phase.{isSending, isTaking}
 use Rattle.board.specs.declared.Place.{Place}
-use Rattle.lineup.specs.Chips.{placesOf}
+use Rattle.board.specs.Place.{placed}
+use Rattle.lineup.specs.Chips.{chipAt, placesOf}
 use Rattle.bus.specs.Step.{step}
 use Rattle.bus.proofs.Typed.{has-four}
 use Rattle.promises.specs.Playing.{World, after, answersTo}
+use Rattle.turns.specs.Idle.{isLoading, isAtRest, isIdle}
+use Rattle.turns.specs.Seen.{anyLoading, seen}
 use Rattle.turns.specs.Turn.{Turn, isTurn}
 use Rattle.turns.specs.Shuffle.{beganAt, areTurns, eventsOf, Shuffle, turnOf, answersOf, answerOf, isExcepted}
 use Rattle.turns.specs.Alone.{alone, ownTurn, ownTurns}
@@ -35,6 +40,16 @@ no-answers count places k (turn ∷ rest) answers are past =
     rw (ne-eqb (turn .chip) k (λ same. omega (arith, same)))
     (no-answers count places k rest (drop (length (turn .events)) answers) (and-right (isTurn count places turn) _ are) past)
 
+-- where turns may begin no chip holds a load
+none-loads : {world : World} → Idling world → anyLoading (world .0) ≡ false
+unfolding isIdle
+none-loads {world} waits =
+    none-any (λ (i : ℕ). isLoading (chipAt (world .0 .chips) i)) (placed (world .0 .count))
+    (λ i below.
+    let c = chipAt (world .0 .chips) i in
+    let rest = all-at (λ (i : ℕ). isAtRest (chipAt (world .0 .chips) i)) (placed (world .0 .count)) i (waits .idle) below in
+    not-true _ (and-left _ _ (and-right (not (isSending (c .control .phase)) && not (isTaking (c .control .phase))) _ rest)))
+
 by-itself : (world : World) (turns : List Turn) → Idling world → Turns world turns → (k : ℕ) → k < world .0 .count
     → AsAlone k turns (ending step world turns) (ending step (alone k world) (ownTurns k turns))
 by-itself world turns waits are k below =
@@ -47,7 +62,7 @@ module _ (world : World) (turns others : List Turn) (waits : Idling world) (are 
   own-same : (k : ℕ) → ownTurns k turns ≡ ownTurns k others
   own-same k = ap (map ownTurn) (shuffle k)
 
-  ends-same : after step world (eventsOf turns) ≡ after step world (eventsOf others)
+  ends-same : seen (after step world (eventsOf turns)) ≡ seen (after step world (eventsOf others))
   ends-same =
       let one = turns-pass turns world waits are in
       let other = turns-pass others world waits are-too in
@@ -56,8 +71,10 @@ module _ (world : World) (turns others : List Turn) (waits : Idling world) (are 
       (λ k below.
       let there : k < world .0 .count = omega (arith, below, one .count) in
       ends-alone turns world waits are k there
-      ∙ ap (λ (own : List Turn). after step (alone k world) (eventsOf own)) (own-same k)
+      ∙ ap (λ (own : List Turn). seen (after step (alone k world) (eventsOf own))) (own-same k)
       ∙ sym (ends-alone others world waits are-too k there))
+      (none-loads (one .waits))
+      (none-loads (other .waits))
 
   answers-same : (k j i : ℕ) → isExcepted (turnOf k turns j) i ≡ false
       → answerOf k turns (answersTo step world (eventsOf turns)) j i ≡ answerOf k others (answersTo step world (eventsOf others)) j i

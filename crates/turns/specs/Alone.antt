@@ -5,6 +5,7 @@ use mathlib.Core.Bool.{cond, _&&_}
 use mathlib.Core.List.{List, [], _∷_, map}
 use lib.Dec.{leb}
 use Rattle.base.specs.Word.{wordOf}
+use Rattle.load.specs.Load.{noValues}
 use Rattle.chip.specs.declared.Chip.{Chip}
 use Rattle.decode.specs.Decode.{kindOf}
 use Rattle.lineup.specs.Chips.{chipAt, placesOf}
@@ -13,17 +14,21 @@ use Rattle.bus.specs.declared.Bus.{Bus}
 use Rattle.bus.specs.Setup.{emptyChip}
 use Rattle.board.specs.Stores.{arrayOf, securityOf}
 use Rattle.promises.specs.Playing.{World, busOf}
+use Rattle.turns.specs.Idle.{isLoading}
 use Rattle.turns.specs.Turn.{Turn}
 use Rattle.turns.specs.Shuffle.{turnsOf}
 
--- a bus of one chip
-abbrev pub onlyBus : Chip → Bus
-onlyBus c = record { count = 1; chips = c ∷ emptyChip ∷ emptyChip ∷ emptyChip ∷ [] }
+abbrev pub onlyChips : Chip → List Chip
+onlyChips c = c ∷ emptyChip ∷ emptyChip ∷ emptyChip ∷ []
+
+-- a bus of one chip; of the values it has those of its own load
+abbrev pub onlyBus : Chip → List ℕ → Bus
+onlyBus c values = record { count = 1; chips = onlyChips c; values = cond (isLoading c) values noValues }
 
 abbrev pub alone : ℕ → World → World
 alone k world =
     let chips = busOf world .chips in
-    (onlyBus (chipAt chips k), arrayShare (placesOf chips) k (arrayOf world), securityShare (placesOf chips) k (securityOf world))
+    (onlyBus (chipAt chips k) (busOf world .values), arrayShare (placesOf chips) k (arrayOf world), securityShare (placesOf chips) k (securityOf world))
 
 abbrev pub renamed : ℕ → ℕ
 renamed word = cond (leb 5 (kindOf word) && leb (kindOf word) 7) (wordOf (kindOf word) 0) word

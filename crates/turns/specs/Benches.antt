@@ -30,14 +30,14 @@ lineCounter before now =
 -- a chip with its array counter elsewhere, modulo its array; one amid a load is the one that moved it, and has it already
 abbrev pub movedTo : ℕ → Chip → Chip
 movedTo at c =
-    cond (isEmpty (c .load .span)) (record { control = arraycounterAt (at % geometryOf (c .control .part) .array) (c .control); load = c .load }) c
+    cond (isEmpty (c .span)) (record { control = arraycounterAt (at % geometryOf (c .control .part) .array) (c .control); span = c .span }) c
 
 -- one counter for the line: after every event all chips have it
 abbrev pub shared : Fault
 shared world word made =
     let bus = busOf (ledTo made) in (
       record {
-        bus = record { count = bus .count; chips = map (movedTo (lineCounter (busOf world .chips) (bus .chips))) (bus .chips) };
+        bus = record { count = bus .count; chips = map (movedTo (lineCounter (busOf world .chips) (bus .chips))) (bus .chips); values = bus .values };
         answer = made .0 .answer;
       },
       arrayOf made,

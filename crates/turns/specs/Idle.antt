@@ -11,7 +11,7 @@ use Rattle.bus.specs.declared.Bus.{Bus}
 
 -- some byte of a page is loaded
 abbrev pub isLoading : Chip → Bool
-isLoading c = not (isEmpty (c .load .span))
+isLoading c = not (isEmpty (c .span))
 
 abbrev pub isAtRest : Chip → Bool
 isAtRest c =

@@ -1,4 +1,5 @@
 pub mod Idle
+pub mod Seen
 pub mod Turn
 pub mod Shuffle
 pub mod Alone

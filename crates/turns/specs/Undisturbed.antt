@@ -17,6 +17,7 @@ use Rattle.bus.specs.Step.{entryChecks}
 use Rattle.bus.proofs.Typed.{OfItsType}
 use Rattle.promises.specs.Playing.{World, busOf, Bench, after, answersTo}
 use Rattle.turns.specs.Idle.{isIdle}
+use Rattle.turns.specs.Seen.{seen}
 use Rattle.turns.specs.Turn.{Turn}
 use Rattle.turns.specs.Shuffle.{areTurns, eventsOf, Shuffle, turnOf, beganAt, answerOf, isExcepted}
 use Rattle.turns.specs.Alone.{alone, ownTurns}
@@ -31,15 +32,15 @@ pub record Ready (world : World) : Type 0 where
 abbrev pub Turns : World → List Turn → Type 0
 Turns world turns = areTurns (busOf world .count) (placesOf (busOf world .chips)) turns ≡ true
 
--- memories, registers, counters, busy marks and WP levels end the same (the whole state does), and the j-th turn of a chip in one list
--- gets the answers of its j-th turn in the other
+-- memories, registers, counters, busy marks and WP levels end the same (the whole state does, but for values that nothing shows), and the j-th
+-- turn of a chip in one list gets the answers of its j-th turn in the other
 pub record Alike (turns others : List Turn) (one other : Ending) : Type 0 where
-  pub ends : one .0 ≡ other .0
+  pub ends : seen (one .0) ≡ seen (other .0)
   pub answers : (k j i : ℕ) → isExcepted (turnOf k turns j) i ≡ false → answerOf k turns (one .1) j i ≡ answerOf k others (other .1) j i
 
 -- chip k ends as it does by itself, and its turns get the answers that it gives alone on the line
 pub record AsAlone (k : ℕ) (turns : List Turn) (one byItself : Ending) : Type 0 where
-  pub ends : alone k (one .0) ≡ byItself .0
+  pub ends : alone k (one .0) ≡ seen (byItself .0)
   pub answers : (j i : ℕ) → isExcepted (turnOf k turns j) i ≡ false → answerOf k turns (one .1) j i ≡ answerOf 0 (ownTurns k turns) (byItself .1) j i
 
 -- some chip is not busy

@@ -7,6 +7,7 @@
 --                              what the holder keeps
 --     ref-back, slice-back     these three, with the last value in the place of what was lent, become the holder's part at it
 --     lend-shared, shared-back     the same of a `&mut [T]` that is lent as a `&[T]`, and comes back as it was
+--     open-ref, shut-ref       the value behind a `&mut T` stands in its cell, where it is read and stored, until it is shut again
 --     lend-local, local-back   the same of plain data in a local: its cell is lent, and comes back with what is known of its value
 --     as-long                  a slice that is the same for the machine as when it was passed is as long as it was
 --     asks, answers            a call with no code around it: what is asked for is at the head, and what comes back is taken apart
@@ -23,7 +24,7 @@ use base.Fml.{Lft, Share, GName, Fml, fsep, feq, fat, flft, flent, fobor, fobs, 
 use prog.Wp.{Heap, Calls}
 use ghost.Atoms.{Atoms, sem}
 use sound.WpLaws.{FmC}
-use types.Kit.{Given, Item, ‵, raw, some, later, _⊛_, ⋆, pop, push, Goal, prop, Soaks, Seq, Step, step, _$_, move, drop, use1, use2, use3, split, pick, rewrite, fsplit, fsplit3, fjoin, fpick, fpack, feqL, feqI, await}
+use types.Kit.{Given, Item, ‵, raw, some, later, _⊛_, ⋆, pop, push, Goal, prop, Soaks, Seq, Step, step, _$_, move, drop, use1, use2, use3, split, pick, rewrite, fsplit, fsplit3, fjoin, fjoin3, fpick, fpack, feqL, feqI, await}
 use types.Tokens.{lft-new, lft-end, lent-back}
 use types.SemTy.{cells, Arr, Body}
 use types.Share.{arr-parts}
@@ -36,7 +37,7 @@ use denote.Slice.{sliceVal, MutSlice, ShrSlice, Room, finally, at-slice, heres, 
 use denote.Lend.{Held, LentAgain, lends-ref, ref-back as cell-back, lends-again, comes-back, lends-slice, slice-back as memory-back, lends-shr-slice}
 use denote.Index.{row, whole-in, whole-out, opens-slice, closes-slice}
 use denote.Signature.{typeAt}
-use denote.Steps.{owned, peeks, facts}
+use denote.Steps.{opens, closes, owned, peeks, facts}
 use denote.Triple.Entry.{Res, alive}
 use denote.Triple.Spec.{tripleOf}
 use denote.Triple.Statement.{Contract, Triple}
@@ -70,6 +71,10 @@ module _ (R : RattleType) (κ : Lft) where
     abbrev pub KeptRef : RefT (R .Denot) → ℕ → GName → Fml
     KeptRef x ν δ = LentAgain R κ (ν ∷ []) q (x .name) (x .ptr .0) (x .ptr .1) δ (x .now)
 
+    -- what is left of a borrow while its value stands in its cell
+    pub Opened : RefT (R .Denot) → Fml
+    Opened x = fsep (fobor κ q (Body (mem R) (x .ptr .0) (x .ptr .1) (x .name))) (fsep (fobs (x .name) (R .coded .code (x .now))) (fauth (x .name) (R .coded .code (x .now))))
+
     -- the memory is to come back, and the borrow that it came out of is open
     abbrev pub KeptSlice : RefT (List (R .Denot)) → List Val → ℕ → GName → Fml
     KeptSlice x vs ν δ =
@@ -85,6 +90,14 @@ module _ (R : RattleType) (κ : Lft) where
 abbrev pub Last : (R : RattleType) → List (R .Denot) → GName → List (R .Denot) → Fml
 Last R xs δ ys = fsep (finally R δ ys) (feq ℕ (length ys) (length xs))
 
+module _ {M : Type 1} {𝓤 : URA M} {H : Heap 𝓤} {A : Atoms 𝓤} (W : Given 𝓤 H A) where
+  -- a cell of a type that is one machine type, by that one
+  to-cell : (R : RattleType) {τ : Ty} → R .mir ≡ τ ∷ [] → (b o : ℕ) (v : Val) → ent 𝓤 (sem 𝓤 H A (fat fullShare τ b o v)) (sem 𝓤 H A (cellAt fullShare (R .mir) (v ∷ []) b o))
+  to-cell R {τ} one b o v = subst (λ (τs : List Ty). ent 𝓤 (sem 𝓤 H A (fat fullShare τ b o v)) (sem 𝓤 H A (cellAt fullShare τs (v ∷ []) b o))) (sym one) (W .laws .at-raw fullShare τ b o v)
+
+  from-cell : (R : RattleType) {τ : Ty} → R .mir ≡ τ ∷ [] → (b o : ℕ) (v : Val) → ent 𝓤 (sem 𝓤 H A (cellAt fullShare (R .mir) (v ∷ []) b o)) (sem 𝓤 H A (fat fullShare τ b o v))
+  from-cell R {τ} one b o v = subst (λ (τs : List Ty). ent 𝓤 (sem 𝓤 H A (cellAt fullShare τs (v ∷ []) b o)) (sem 𝓤 H A (fat fullShare τ b o v))) (sym one) (W .laws .raw-at fullShare τ b o v)
+
 module _ {M : Type 1} {𝓤 : URA M} {H : Heap 𝓤} {A : Atoms 𝓤} {K : Type 0} {W : Given 𝓤 H A} {Γ : List (Item 𝓤)} {G : Goal 𝓤 H} where
   pub lend-ref : K → Soaks G → (R : RattleType) (x : RefT (R .Denot)) {κ : Lft} {q : Share}
       → ((ν : ℕ) (δ : GName) → Seq K W (‵ (flft (ν ∷ []) fullShare) ∷ ‵ (Ref R (ν ∷ []) (under x δ)) ∷ ‵ (KeptRef R κ q x ν δ) ∷ Γ) G) → Seq K W (‵ (HeldRef R κ q x) ∷ Γ) G
@@ -96,6 +109,25 @@ module _ {M : Type 1} {𝓤 : URA M} {H : Heap 𝓤} {A : Atoms 𝓤} {K : Type 
       → Step K W (‵ (HeldRef R κ q (at-last x y)) ∷ Γ) G (‵ (flft (ν ∷ []) fullShare) ∷ ‵ (KeptRef R κ q x ν δ) ∷ ‵ (fres δ (R .coded .code y)) ∷ Γ) G
   ref-back t z R x y {κ} {q} {ν} {δ} = step (λ s. lft-end t z $
       use3 W (later (‵ (HeldRef R κ q (at-last x y)))) (comes-back 𝓤 H A W R erased κ (ν ∷ []) q (x .name) (x .ptr .0) (x .ptr .1) δ (x .now) y) $ await t z $ s)
+
+  -- val is a value's machine value
+  pub open-ref : K → Soaks G → (R : RattleType) (val : R .Denot → Val) → Tells R (Is R) (λ h. val h ∷ []) → {τ : Ty} → R .mir ≡ τ ∷ [] → (x : RefT (R .Denot)) {κ : Lft} {q : Share}
+      → (Is R (x .now) (val (x .now) ∷ []) → Seq K W (‵ (fat fullShare τ (x .ptr .0) (x .ptr .1) (val (x .now))) ∷ ‵ (Opened R κ q x) ∷ Γ) G) → Seq K W (‵ (HeldRef R κ q x) ∷ Γ) G
+  unfolding Opened
+  open-ref t z R val tells {τ} one x k =
+      let (b, o) = x .ptr in
+      fsplit t $ fsplit3 t $ drop t $ opens t z R {h = x .now} b o (λ vs. move t (1 ∷ []) $ facts t R (Is R) (shows 𝓤 H A R) (x .now) vs (λ is.
+      rewrite t 0 (λ (us : List Val). ‵ (cellAt fullShare (R .mir) us b o)) (tells (x .now) vs is) refl $ use1 W (‵ (fat fullShare τ b o (val (x .now)))) (from-cell W R one b o (val (x .now))) $
+      -- [the cell; the open borrow, and the two halves of its name]
+      move t (1 ∷ 2 ∷ 3 ∷ []) $ fjoin3 t $ move t (1 ∷ 0 ∷ []) $ k (subst (Is R (x .now)) (tells (x .now) vs is) is)))
+
+  pub shut-ref : K → Soaks G → (R : RattleType) → Makes 𝓤 H A R (Is R) → {τ : Ty} → R .mir ≡ τ ∷ [] → (x : RefT (R .Denot)) (y : R .Denot) (v : Val) → Is R y (v ∷ []) → {κ : Lft} {q : Share}
+      → Step K W (‵ (HeldRef R κ q (at-last x y)) ∷ Γ) G (‵ (fat fullShare τ (x .ptr .0) (x .ptr .1) v) ∷ ‵ (Opened R κ q x) ∷ Γ) G
+  unfolding Opened
+  shut-ref t z R makes {τ} one x y v is = step (λ s.
+      let (b, o) = x .ptr in
+      use1 W (‵ (cellAt fullShare (R .mir) (v ∷ []) b o)) (to-cell W R one b o v) $ owned t R (Is R) makes y (v ∷ []) is $ move t (2 ∷ []) $ fsplit3 t $ move t (4 ∷ 3 ∷ []) $ closes t z R y (v ∷ []) b o $
+      feqI t (List Val) (vptr b o ∷ []) (vptr b o ∷ []) refl $ fjoin3 t $ fjoin t $ s)
 
   pub lend-slice : K → Soaks G → (R : RattleType) (x : RefT (List (R .Denot))) (vs : List Val) {κ : Lft} {q : Share}
       → ((ν : ℕ) (δ : GName) → Seq K W (‵ (flft (ν ∷ []) fullShare) ∷ ‵ (Slice R (ν ∷ []) (under x δ) vs) ∷ ‵ (KeptSlice R κ q x vs ν δ) ∷ Γ) G) → Seq K W (‵ (HeldSlice R κ q x vs) ∷ Γ) G
@@ -135,7 +167,7 @@ module _ {M : Type 1} {𝓤 : URA M} {H : Heap 𝓤} {A : Atoms 𝓤} {K : Type 
       → ((ν : ℕ) (δ : GName) → Seq K W (‵ (flft (ν ∷ []) fullShare) ∷ ‵ (Ref R (ν ∷ []) (local l h δ)) ∷ ‵ (flent (ν ∷ []) (Body (mem R) l 0 δ)) ∷ Γ) G) → Seq K W (‵ (fat fullShare τ l 0 v) ∷ Γ) G
   unfolding partOf
   lend-local t z R makes {τ} one l h v is k =
-      use1 W (‵ (cellAt fullShare (R .mir) (v ∷ []) l 0)) (subst (λ (τs : List Ty). ent 𝓤 (sem 𝓤 H A (fat fullShare τ l 0 v)) (sem 𝓤 H A (cellAt fullShare τs (v ∷ []) l 0))) (sym one) (W .laws .at-raw fullShare τ l 0 v)) $
+      use1 W (‵ (cellAt fullShare (R .mir) (v ∷ []) l 0)) (to-cell W R one l 0 v) $
       owned t R (Is R) makes h (v ∷ []) is $ move t (1 ∷ 0 ∷ []) $ fjoin t $ fpack t (List Val) (λ us. fsep (cellAt fullShare (R .mir) us l 0) (R .own h us)) (v ∷ []) $ lft-new t z (λ ν. move t (1 ∷ []) $
       use1 W (later (some (λ (δ : GName). ‵ (Ref R (ν ∷ []) (local l h δ)) ⊛ ‵ (flent (ν ∷ []) (Body (mem R) l 0 δ))))) (lends-ref 𝓤 H A W R erased (ν ∷ []) h l 0) $ await t z $ pick t (λ δ. split t $ move t (2 ∷ []) $ k ν δ))
 
@@ -145,7 +177,7 @@ module _ {M : Type 1} {𝓤 : URA M} {H : Heap 𝓤} {A : Atoms 𝓤} {K : Type 
   local-back t z R val tells {τ} one l h {ν} {δ} k =
       lft-end t z $ use3 W (later (‵ (mem R .lies h l 0))) (cell-back 𝓤 H A W R (ν ∷ []) δ h l 0) $ await t z $ fpick t (λ vs. fsplit t $ move t (1 ∷ []) $ facts t R (Is R) (shows 𝓤 H A R) h vs (λ is.
       rewrite t 0 (λ (us : List Val). ‵ (cellAt fullShare (R .mir) us l 0)) (tells h vs is) refl $
-      use1 W (‵ (fat fullShare τ l 0 (val h))) (subst (λ (τs : List Ty). ent 𝓤 (sem 𝓤 H A (cellAt fullShare τs (val h ∷ []) l 0)) (sem 𝓤 H A (fat fullShare τ l 0 (val h)))) (sym one) (W .laws .raw-at fullShare τ l 0 (val h))) $
+      use1 W (‵ (fat fullShare τ l 0 (val h))) (from-cell W R one l 0 (val h)) $
       k (subst (Is R h) (tells h vs is) is)))
 
   pub as-long : K → (R : RattleType) (x : RefT (List (R .Denot))) (ys : List (R .Denot)) {κ : Lft} {vs : List Val} → Is (MutSlice erased κ R) x vs

@@ -15,12 +15,11 @@ use Rattle.control.specs.Control.{inPhase, arraycounterAt, securitycounterAt}
 use Rattle.control.specs.Control as control
 use Rattle.chip.specs.declared.Chip.{Chip}
 use Rattle.chip.specs.Chip.{fresh}
-use Rattle.load.specs.Load.{empty}
 use Rattle.wellformed.specs.Wellformed.{wellFormed}
 
 -- a 24CS32 that sends its ID from a place on
 abbrev sendsIdFrom : ℕ → Chip
-sendsIdFrom place = let c = fresh 2 0 in record { control = inPhase (SendsByte (FromId place)) (c .control); load = c .load }
+sendsIdFrom place = let c = fresh 2 0 in record { control = inPhase (SendsByte (FromId place)) (c .control); span = c .span }
 
 pub id-places-on-both-sides : map (λ (place : ℕ). wellFormed (sendsIdFrom place)) (0 ∷ 2 ∷ 3 ∷ 255 ∷ []) ≡ true ∷ true ∷ false ∷ false ∷ []
 unfolding wellFormed geometryOf
@@ -28,7 +27,7 @@ id-places-on-both-sides = refl
 
 -- a chip with so much loaded from a place on
 abbrev loading : Control → ℕ → ℕ → Chip
-loading c first count = record { control = c; load = record { span = record { first = first; count = count }; values = empty .values } }
+loading c first count = record { control = c; span = record { first = first; count = count } }
 
 -- taking some data
 abbrev taking : Data → ℕ → Control

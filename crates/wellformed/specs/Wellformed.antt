@@ -77,4 +77,4 @@ abbrev pub spanFits : Control → Span → Bool
 spanFits c span = insidePage (geometryOf (c .part) .page) span && (onlyDataLoads c span && nextRunsOn (c .phase) c span)
 
 unfoldable pub wellFormed : Chip → Bool
-wellFormed c = controlFits (c .control) && spanFits (c .control) (c .load .span)
+wellFormed c = controlFits (c .control) && spanFits (c .control) (c .span)

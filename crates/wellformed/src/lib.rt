@@ -123,7 +123,6 @@ pub fn well_formed(chip: Chip) -> bool
     ensures { λ r. ⌜ r ≡ wellFormed chip ⌝ }
 {
     let control = chip.control;
-    let load = chip.load;
-    let span = load.span;
+    let span = chip.span;
     and(control_fits(control), span_fits(control, span))
 }

@@ -1,6 +1,6 @@
 -- Each arm is its callee's contract at the phase that the arm knows; only data can change a share.
 use Rattle.cycle.specs.Stop.{stopIn, stop}
-use Rattle.load.specs.declared.Load.{Load}
+use Rattle.load.specs.Load.{Load}
 use Rattle.control.specs.declared.phase.Phase.{Phase}
 use Rattle.control.specs.declared.Control.{Control}
 use mathlib.Core.Path.{_≡_, _∙_, ap, sym}

@@ -10,6 +10,7 @@ use Rattle.parts.specs.Part.{geometryOf}
 use Rattle.parts.specs.Address.{answers, shareAddress}
 use Rattle.parts.proofs.part.Laws.{sound-of}
 use Rattle.parts.proofs.address.Laws.{share-exactly-when}
+use Rattle.load.specs.Load.{loadOf}
 use Rattle.control.specs.declared.Control.{Control}
 use Rattle.control.specs.declared.Answered.{Answered}
 use Rattle.control.specs.declared.phase.Phase.{Phase}
@@ -236,19 +237,19 @@ read-awaiting : (c : Control) (array security : List ℕ) (nack : Bool) → isAw
 read-awaiting c array security nack waits = awaiting-is (c .phase) waits (λ (phase : Phase). readIn phase c array security nack .control ≡ c) refl refl
 
 -- Stop
-module _ (c : Chip) (array security : List ℕ) (formed : wellFormed c ≡ true) where
+module _ (c : Chip) (values array security : List ℕ) (formed : wellFormed c ≡ true) where
   abbrev Ends : Phase → Type 0
-  Ends phase = Inert (stopIn phase (c .control) (c .load) array security .0)
+  Ends phase = Inert (stopIn phase (c .control) (loadOf (c .span) values) array security .0)
 
-  stop-inert : Ends (c .control .phase) → Inert (chip.stop c array security .0 .control)
+  stop-inert : Ends (c .control .phase) → Inert (chip.stop c values array security .0 .control)
   unfolding stop
   stop-inert ends =
       either-if (λ (x : Chip × List ℕ × List ℕ). Inert (x .0 .control)) (isBusy (c .control .phase)) (c, array, security) _ (busy-inert c formed) ends
 
-  inert-stops : Inert (c .control) → Inert (chip.stop c array security .0 .control)
+  inert-stops : Inert (c .control) → Inert (chip.stop c values array security .0 .control)
   inert-stops inert = stop-inert (rests (c .control) inert Ends (false≢true, false≢true) inert)
 
-  awaiting-stops : isAwaiting (c .control .phase) ≡ true → Inert (chip.stop c array security .0 .control)
+  awaiting-stops : isAwaiting (c .control .phase) ≡ true → Inert (chip.stop c values array security .0 .control)
   awaiting-stops waits = stop-inert (awaiting-is (c .control .phase) waits Ends (false≢true, false≢true) (false≢true, false≢true))
 
 -- the end of a cycle: a busy chip awaits nothing, and on standby it is active only where chosen
@@ -274,26 +275,26 @@ isNamed (Wp level) = true
 isNamed CycleOver = true
 isNamed PowerUp = false
 
-pub named-kept : (c d : Chip) (array security : List ℕ) (event : Event) → isNamed event ≡ true
+pub named-kept : (c d : Chip) (values array security : List ℕ) (event : Event) → isNamed event ≡ true
     → sideBySide (c .control) (d .control) ≡ true
-    → sideBySide (chip.step c array security event .0 .chip .control) (d .control) ≡ true
+    → sideBySide (chip.step c values array security event .0 .chip .control) (d .control) ≡ true
 unfolding chip.step
-named-kept c d array security Start named test = absurd (false≢true named)
-named-kept c d array security Stop named test = absurd (false≢true named)
-named-kept c d array security (Sent byte) named test = absurd (false≢true named)
-named-kept c d array security (Read nack) named test = absurd (false≢true named)
-named-kept c d array security (Wp level) named test = test
-named-kept c d array security CycleOver named test = of-beside _ _ (over-beside c (d .control) (beside-of (c .control) (d .control) test))
-named-kept c d array security PowerUp named test = absurd (false≢true named)
+named-kept c d values array security Start named test = absurd (false≢true named)
+named-kept c d values array security Stop named test = absurd (false≢true named)
+named-kept c d values array security (Sent byte) named test = absurd (false≢true named)
+named-kept c d values array security (Read nack) named test = absurd (false≢true named)
+named-kept c d values array security (Wp level) named test = test
+named-kept c d values array security CycleOver named test = of-beside _ _ (over-beside c (d .control) (beside-of (c .control) (d .control) test))
+named-kept c d values array security PowerUp named test = absurd (false≢true named)
 
 -- whatever the phases: an event that the bus would refuse keeps it too
-module _ (c d : Chip) (array security array′ security′ : List ℕ) (formed : wellFormed c ≡ true) (formed′ : wellFormed d ≡ true) (unshared : Unshared (c .control) (d .control)) (b : Beside (c .control) (d .control)) where
-  both-step : (event : Event) → Beside (chip.step c array security event .0 .chip .control) (chip.step d array′ security′ event .0 .chip .control)
+module _ (c d : Chip) (values array security values′ array′ security′ : List ℕ) (formed : wellFormed c ≡ true) (formed′ : wellFormed d ≡ true) (unshared : Unshared (c .control) (d .control)) (b : Beside (c .control) (d .control)) where
+  both-step : (event : Event) → Beside (chip.step c values array security event .0 .chip .control) (chip.step d values′ array′ security′ event .0 .chip .control)
   unfolding chip.step take read
   both-step Start = both-steady b (start-steady c formed) (start-steady d formed′)
   both-step Stop =
-      unless-both-await _ _ b (inert-stops c array security formed) (inert-stops d array′ security′ formed′)
-      (λ is other. inert-beside (awaiting-stops c array security formed is))
+      unless-both-await _ _ b (inert-stops c values array security formed) (inert-stops d values′ array′ security′ formed′)
+      (λ is other. inert-beside (awaiting-stops c values array security formed is))
   both-step (Sent byte) =
       unless-both-await _ _ b (take-inert (c .control) byte) (take-inert (d .control) byte) (both-hear _ _ byte unshared b)
   both-step (Read nack) =
@@ -303,10 +304,10 @@ module _ (c d : Chip) (array security array′ security′ : List ℕ) (formed :
   both-step CycleOver = swapped (over-beside d _ (swapped (over-beside c _ b)))
   both-step PowerUp = inert-beside (false≢true, false≢true)
 
-pub side-by-side-kept : (c d : Chip) (array security array′ security′ : List ℕ) (event : Event)
+pub side-by-side-kept : (c d : Chip) (values array security values′ array′ security′ : List ℕ) (event : Event)
     → wellFormed c ≡ true → wellFormed d ≡ true
     → shareAddress (geometryOf (c .control .part)) (c .control .strap) (geometryOf (d .control .part)) (d .control .strap) ≡ false
     → sideBySide (c .control) (d .control) ≡ true
-    → sideBySide (chip.step c array security event .0 .chip .control) (chip.step d array′ security′ event .0 .chip .control) ≡ true
-side-by-side-kept c d array security array′ security′ event formed formed′ unshared test =
-    of-beside _ _ (both-step c d array security array′ security′ formed formed′ unshared (beside-of _ _ test) event)
+    → sideBySide (chip.step c values array security event .0 .chip .control) (chip.step d values′ array′ security′ event .0 .chip .control) ≡ true
+side-by-side-kept c d values array security values′ array′ security′ event formed formed′ unshared test =
+    of-beside _ _ (both-step c d values array security values′ array′ security′ formed formed′ unshared (beside-of _ _ test) event)

@@ -1,11 +1,12 @@
 -- Bytes stay bytes under every event: a chip loads, stores and configures only what the host sent, and sends only what it holds, its ID
 -- bytes, or FF.
-use Prim.Native.Nat.{ℕ, _*_}
+use Prim.Native.Nat.{ℕ, zero, suc, _*_}
 use native.Mathlib.Omega.{arith}
 use mathlib.Core.Bool.{Bool, cond, not, _&&_}
 use mathlib.Core.List.{List, [], _∷_}
 use mathlib.Core.Path.{subst}
 use lib.Dec.{eqb}
+use lib.ListN.{replicate}
 use Rattle.base.specs.Every.{FitsByte, AllBytes}
 use Rattle.base.proofs.logic.Laws.{either}
 use Rattle.base.proofs.Fold.{up-keeps}
@@ -13,8 +14,7 @@ use Rattle.base.proofs.Every.{every-at, every-set}
 use Rattle.parts.specs.declared.part.Geometry.{Geometry}
 use Rattle.parts.specs.Part.{geometry24CSM01, geometry24CS32, geometryOf}
 use Rattle.regions.specs.Page.{pageOf}
-use Rattle.load.specs.declared.Load.{Load}
-use Rattle.load.specs.Load.{isLoaded, storePlace, storePage}
+use Rattle.load.specs.Load.{Load, loadOf, isLoaded, storePlace, storePage}
 use Rattle.control.specs.declared.Control.{Control}
 use Rattle.control.specs.declared.Answered.{Answered}
 use Rattle.control.specs.declared.phase.Phase.{Phase}
@@ -48,7 +48,7 @@ use Rattle.chip.specs.declared.event.Event.{Event}
 use Rattle.chip.specs.declared.event.Event.the-variants.{Start, Stop, Sent, Read, Wp, CycleOver, PowerUp}
 use Rattle.chip.specs.Chip as chip
 use Rattle.promises.specs.ChipBytes.{bytesCame, bytesIn, ControlBytes, ChipBytes, SaidByte, EventByte, StepBytes}
-use Rattle.promises.proofs.Keeping.Loads.{load-keeps}
+use Rattle.promises.proofs.Keeping.Loads.{values-keep}
 use Rattle.promises.proofs.Keeping.Shares.{shares-keep}
 
 -- what a chip makes of a byte sent or read
@@ -168,8 +168,8 @@ module _ (c : Control) (load : Load) (array security : List ℕ) (now : ControlB
   configured-bytes More held = over
 
   data-stopped : (kind : Data) → AllBytes (bytesIn (TakesData kind)) → ControlBytes (stopData kind c load array security .0)
-  data-stopped ToArray held = either (λ (x : Control × List ℕ). ControlBytes (x .0)) (writesArray c load) _ _ over over
-  data-stopped ToSecurity held = either (λ (x : Control × List ℕ). ControlBytes (x .0)) (writesSecurity c load) _ _ over over
+  data-stopped ToArray held = either (λ (x : Control × List ℕ). ControlBytes (x .0)) (writesArray c (load .span)) _ _ over over
+  data-stopped ToSecurity held = either (λ (x : Control × List ℕ). ControlBytes (x .0)) (writesSecurity c (load .span)) _ _ over over
   data-stopped (ToConfiguration came) held = configured-bytes came held
   data-stopped (ToLock some) held = either ControlBytes (some && not (c .idlocked)) _ _ over over
   data-stopped ToNowhere held = over
@@ -186,59 +186,60 @@ Shares array security = AllBytes array × AllBytes security
 module _ (c : Control) (load : Load) (array security : List ℕ) (in-load : AllBytes (load .values)) (in-array : AllBytes array) (in-security : AllBytes security) where
   shares-stopped : (kind : Data) → Shares (stopData kind c load array security .1) (stopData kind c load array security .2)
   shares-stopped ToArray =
-      (either (λ (x : Control × List ℕ). AllBytes (x .1)) (writesArray c load) _ _ (page-stored (geometryOf (c .part)) (c .arraycounter) load array in-load in-array) in-array, in-security)
+      (either (λ (x : Control × List ℕ). AllBytes (x .1)) (writesArray c (load .span)) _ _ (page-stored (geometryOf (c .part)) (c .arraycounter) load array in-load in-array) in-array, in-security)
   shares-stopped ToSecurity =
-      (in-array, either (λ (x : Control × List ℕ). AllBytes (x .1)) (writesSecurity c load) _ _ (page-stored (geometryOf (c .part)) (c .securitycounter) load security in-load in-security) in-security)
+      (in-array, either (λ (x : Control × List ℕ). AllBytes (x .1)) (writesSecurity c (load .span)) _ _ (page-stored (geometryOf (c .part)) (c .securitycounter) load security in-load in-security) in-security)
   shares-stopped (ToConfiguration came) = (in-array, in-security)
   shares-stopped (ToLock some) = (in-array, in-security)
   shares-stopped ToNowhere = (in-array, in-security)
 
-module _ (c : Chip) (array security : List ℕ) (now : ChipBytes c) where
-  in-load : (event : Event) → EventByte event → AllBytes (chip.step c array security event .0 .chip .load .values)
-  in-load =
-      load-keeps c array security (λ (held : Load). AllBytes (held .values)) (now .1) (now .1)
-      (λ at byte sent. every-set FitsByte (c .load .values) _ byte (now .1) sent)
+-- the values: a byte sent is put among them or, as the first of a load, among those where none has come
+zeros : (n : ℕ) → AllBytes (replicate n 0)
+zeros zero = tt
+zeros (suc n) = (omega arith, zeros n)
 
-  stopped-bytes : ControlBytes (chip.stop c array security .0 .control)
+pub values-stay-bytes : (c : Chip) (values : List ℕ) → AllBytes values → (event : Event) → EventByte event → AllBytes (chip.valuesAfter c event values)
+values-stay-bytes c values in-values event brought =
+    values-keep c values AllBytes in-values (zeros 256) event (λ byte is held place so-far. every-set FitsByte held place byte so-far (subst EventByte is brought))
+
+module _ (c : Chip) (values array security : List ℕ) (now : ChipBytes c) where
+  stopped-bytes : ControlBytes (chip.stop c values array security .0 .control)
   unfolding stop
   stopped-bytes =
-      either (λ (x : Chip × List ℕ × List ℕ). ControlBytes (x .0 .control)) (isBusy (c .control .phase)) (c, array, security) _ (now .0)
-      (stop-bytes (c .control) (c .load) array security (now .0) (c .control .phase) (now .0 .1 .1))
+      either (λ (x : Chip × List ℕ × List ℕ). ControlBytes (x .0 .control)) (isBusy (c .control .phase)) (c, array, security) _ now
+      (stop-bytes (c .control) (loadOf (c .span) values) array security now (c .control .phase) (now .1 .1))
 
   unless-busy : (x y : Chip) → ControlBytes (x .control) → ControlBytes (y .control) → ControlBytes (cond (isBusy (c .control .phase)) x y .control)
   unless-busy x y = either (λ (d : Chip). ControlBytes (d .control)) (isBusy (c .control .phase)) x y
 
-  in-control : (event : Event) → EventByte event → ControlBytes (chip.step c array security event .0 .chip .control)
+  -- whatever the values and the shares hold
+  pub chip-keeps-bytes : (event : Event) → EventByte event → ChipBytes (chip.step c values array security event .0 .chip)
   unfolding chip.step take read
-  in-control Start brought = unless-busy c _ (now .0) (rests (c .control) (now .0))
-  in-control Stop brought = stopped-bytes
-  in-control (Sent byte) brought = take-bytes (c .control) byte (now .0) brought (c .control .phase) (now .0 .1 .1) .0
-  in-control (Read nack) brought = read-bytes (c .control) array security (now .0) (c .control .phase) nack
-  in-control (Wp level) brought = now .0
-  in-control CycleOver brought = unless-busy _ c (rests (c .control) (now .0)) (now .0)
-  in-control PowerUp brought = rests (c .control) (now .0)
+  chip-keeps-bytes Start brought = unless-busy c _ now (rests (c .control) now)
+  chip-keeps-bytes Stop brought = stopped-bytes
+  chip-keeps-bytes (Sent byte) brought = take-bytes (c .control) byte now brought (c .control .phase) (now .1 .1) .0
+  chip-keeps-bytes (Read nack) brought = read-bytes (c .control) array security now (c .control .phase) nack
+  chip-keeps-bytes (Wp level) brought = now
+  chip-keeps-bytes CycleOver brought = unless-busy _ c (rests (c .control) now) now
+  chip-keeps-bytes PowerUp brought = rests (c .control) now
 
-  -- whatever the shares hold
-  pub chip-keeps-bytes : (event : Event) → EventByte event → ChipBytes (chip.step c array security event .0 .chip)
-  chip-keeps-bytes event brought = (in-control event brought, in-load event brought)
-
-  module _ (in-array : AllBytes array) (in-security : AllBytes security) where
-    in-shares : (event : Event) → Shares (chip.step c array security event .1) (chip.step c array security event .2)
+  module _ (in-values : AllBytes values) (in-array : AllBytes array) (in-security : AllBytes security) where
+    in-shares : (event : Event) → Shares (chip.step c values array security event .1) (chip.step c values array security event .2)
     in-shares =
-        shares-keep c array security Shares (in-array, in-security)
-        (shares-stopped (c .control) (c .load) array security (now .1) in-array in-security)
+        shares-keep c values array security Shares (in-array, in-security)
+        (shares-stopped (c .control) (loadOf (c .span) values) array security in-values in-array in-security)
 
-    in-said : (event : Event) → EventByte event → SaidByte (chip.step c array security event .0 .said)
+    in-said : (event : Event) → EventByte event → SaidByte (chip.step c values array security event .0 .said)
     unfolding chip.step take read
     in-said Start brought = tt
     in-said Stop brought = tt
-    in-said (Sent byte) brought = take-bytes (c .control) byte (now .0) brought (c .control .phase) (now .0 .1 .1) .1
-    in-said (Read nack) brought = read-says (c .control) array security (now .0) in-array in-security (c .control .phase) nack
+    in-said (Sent byte) brought = take-bytes (c .control) byte now brought (c .control .phase) (now .1 .1) .1
+    in-said (Read nack) brought = read-says (c .control) array security now in-array in-security (c .control .phase) nack
     in-said (Wp level) brought = tt
     in-said CycleOver brought = tt
     in-said PowerUp brought = tt
 
-    pub bytes-stay-bytes : (event : Event) → EventByte event → StepBytes (chip.step c array security event)
+    pub bytes-stay-bytes : (event : Event) → EventByte event → StepBytes (chip.step c values array security event)
     bytes-stay-bytes event brought =
         let (array, security) = in-shares event in
         (chip-keeps-bytes event brought, in-said event brought, array, security)

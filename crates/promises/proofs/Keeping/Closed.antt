@@ -7,7 +7,7 @@ use mathlib.Core.Path.{_≡_}
 use borrow.Author.Tests.{not-true}
 use Rattle.base.proofs.logic.Laws.{and-right, either-if, either}
 use Rattle.parts.specs.Part.{geometryOf}
-use Rattle.load.specs.declared.Load.{Load}
+use Rattle.load.specs.Load.{Load, loadOf}
 use Rattle.control.specs.declared.Control.{Control}
 use Rattle.control.specs.declared.Answered.{Answered}
 use Rattle.control.specs.declared.phase.Phase.{Phase}
@@ -124,9 +124,9 @@ module _ (P : Control → Type 0) (closed : Closed P) where
 
   ends-keep : (kind : Data) (c : Control) (load : Load) (array security : List ℕ) → P c → P (stopData kind c load array security .0)
   ends-keep ToArray c load array security p =
-      either (λ (x : Control × List ℕ). P (x .0)) (writesArray c load) _ _ (after c false Busy p) (after c false Standby p)
+      either (λ (x : Control × List ℕ). P (x .0)) (writesArray c (load .span)) _ _ (after c false Busy p) (after c false Standby p)
   ends-keep ToSecurity c load array security p =
-      either (λ (x : Control × List ℕ). P (x .0)) (writesSecurity c load) _ _ (after c false Busy p) (after c false Standby p)
+      either (λ (x : Control × List ℕ). P (x .0)) (writesSecurity c (load .span)) _ _ (after c false Busy p) (after c false Standby p)
   ends-keep (ToConfiguration came) c load array security p = came-keeps came c p
   ends-keep (ToLock some) c load array security p =
       either-if P (some && not (c .idlocked)) _ _
@@ -139,15 +139,15 @@ module _ (P : Control → Type 0) (closed : Closed P) where
       stop-either c load array security (λ (x : Control × List ℕ × List ℕ). P (x .0)) phase (λ busy. p) (after c false Standby p)
       (λ kind takes. ends-keep kind c load array security p)
 
-  pub step-keeps : (c : Chip) (array security : List ℕ) (event : Event) → P (c .control) → P (chip.step c array security event .0 .chip .control)
+  pub step-keeps : (c : Chip) (values array security : List ℕ) (event : Event) → P (c .control) → P (chip.step c values array security event .0 .chip .control)
   unfolding chip.step take read stop
-  step-keeps c array security Start p = either (λ (x : Chip). P (x .control)) (isBusy (c .control .phase)) c _ p (closed .phase _ _ p)
-  step-keeps c array security Stop p =
+  step-keeps c values array security Start p = either (λ (x : Chip). P (x .control)) (isBusy (c .control .phase)) c _ p (closed .phase _ _ p)
+  step-keeps c values array security Stop p =
       either (λ (x : Chip × List ℕ × List ℕ). P (x .0 .control)) (isBusy (c .control .phase)) (c, array, security) _ p
-      (stop-keeps (c .control .phase) (c .control) (c .load) array security p)
-  step-keeps c array security (Sent byte) p = take-keeps (c .control .phase) (c .control) byte p
-  step-keeps c array security (Read nack) p = read-keeps (c .control .phase) (c .control) array security nack p
-  step-keeps c array security (Wp level) p = closed .wp _ level p
-  step-keeps c array security CycleOver p = either (λ (x : Chip). P (x .control)) (isBusy (c .control .phase)) _ c (closed .phase _ _ p) p
-  step-keeps c array security PowerUp p =
+      (stop-keeps (c .control .phase) (c .control) (loadOf (c .span) values) array security p)
+  step-keeps c values array security (Sent byte) p = take-keeps (c .control .phase) (c .control) byte p
+  step-keeps c values array security (Read nack) p = read-keeps (c .control .phase) (c .control) array security nack p
+  step-keeps c values array security (Wp level) p = closed .wp _ level p
+  step-keeps c values array security CycleOver p = either (λ (x : Chip). P (x .control)) (isBusy (c .control .phase)) _ c (closed .phase _ _ p) p
+  step-keeps c values array security PowerUp p =
       closed .phase _ _ (closed .shown _ _ (closed .security _ _ (closed .array _ _ (closed .chosen _ _ p))))

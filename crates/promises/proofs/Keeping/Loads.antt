@@ -1,48 +1,55 @@
--- What holds of a chip's load, of it emptied, and of it with a byte put in its place, holds of it after every event.
+-- What holds of the values of a line and of those where no byte has come, and stays so where a byte sent is put in its place, holds of them after
+-- every event.
 use Prim.Native.Nat.{ℕ}
 use mathlib.Core.List.{List}
-use Rattle.base.specs.Every.{FitsByte}
+use mathlib.Core.Path.{_≡_, refl}
+use lib.ListN.{set}
 use Rattle.base.proofs.logic.Laws.{either}
 use Rattle.parts.specs.Part.{geometryOf}
-use Rattle.load.specs.declared.Load.{Load}
-use Rattle.load.specs.Load.{emptied, put}
+use Rattle.regions.specs.Page.{placeOf}
+use Rattle.load.specs.Span.{isEmpty}
+use Rattle.load.specs.Load.{noValues, putAt}
 use Rattle.control.specs.declared.phase.Phase.{Phase}
 use Rattle.control.specs.declared.phase.Phase.the-variants.{Standby, Busy, AwaitsAddress, AwaitsChoice, AwaitsWord, TakesData, SendsByte}
 use Rattle.control.specs.declared.phase.Data.{Data}
 use Rattle.control.specs.declared.phase.Data.the-variants.{ToArray, ToSecurity, ToConfiguration, ToLock, ToNowhere}
-use Rattle.control.specs.Phase.{isBusy}
-use Rattle.taking.specs.Taking.{loadedData, loadedIn, loaded}
-use Rattle.cycle.specs.Stop.{stop}
+use Rattle.taking.specs.Taking.{valuesData, valuesIn}
+use Rattle.taking.specs.Taking as taking
 use Rattle.chip.specs.declared.Chip.{Chip}
 use Rattle.chip.specs.declared.event.Event.{Event}
 use Rattle.chip.specs.declared.event.Event.the-variants.{Start, Stop, Sent, Read, Wp, CycleOver, PowerUp}
-use Rattle.chip.specs.Chip as chip
-use Rattle.promises.specs.ChipBytes.{EventByte}
+use Rattle.chip.specs.Chip.{valuesAfter}
 
-module _ (c : Chip) (array security : List ℕ) (P : Load → Type 0) (now : P (c .load)) (without : P (emptied (c .load))) (with : (at byte : ℕ) → FitsByte byte → P (put (geometryOf (c .control .part)) at byte (c .load))) where
-  to-data : (kind : Data) (byte : ℕ) → FitsByte byte → P (loadedData kind (c .load) (c .control) byte)
-  to-data ToArray byte sent = with (c .control .arraycounter) byte sent
-  to-data ToSecurity byte sent = with (c .control .securitycounter) byte sent
-  to-data (ToConfiguration came) byte sent = now
-  to-data (ToLock some) byte sent = either P (c .control .idlocked) (emptied (c .load)) (c .load) without now
-  to-data ToNowhere byte sent = now
+module _ (c : Chip) (values : List ℕ) (P : List ℕ → Type 0) (now : P values) (none : P noValues) where
+  -- a byte keeps it, wherever it is put
+  abbrev Keeps : ℕ → Type 0
+  Keeps byte = (held : List ℕ) (place : ℕ) → P held → P (set held place byte)
 
-  to-phase : (phase : Phase) (byte : ℕ) → FitsByte byte → P (loadedIn phase (c .load) (c .control) byte)
-  to-phase Standby byte sent = now
-  to-phase Busy byte sent = now
-  to-phase AwaitsAddress byte sent = now
-  to-phase AwaitsChoice byte sent = now
-  to-phase (AwaitsWord word) byte sent = now
-  to-phase (TakesData kind) byte sent = to-data kind byte sent
-  to-phase (SendsByte source) byte sent = now
+  put-keeps : (at byte : ℕ) → Keeps byte → P (putAt (geometryOf (c .control .part)) at byte (c .span) values)
+  put-keeps at byte with = with _ (placeOf (geometryOf (c .control .part)) at) (either P (isEmpty (c .span)) noValues values none now)
 
-  pub load-keeps : (event : Event) → EventByte event → P (chip.step c array security event .0 .chip .load)
-  unfolding chip.step loaded stop
-  load-keeps Start brought = either (λ (x : Chip). P (x .load)) (isBusy (c .control .phase)) c _ now without
-  load-keeps Stop brought =
-      either (λ (x : Chip × List ℕ × List ℕ). P (x .0 .load)) (isBusy (c .control .phase)) (c, array, security) _ now without
-  load-keeps (Sent byte) brought = to-phase (c .control .phase) byte brought
-  load-keeps (Read nack) brought = now
-  load-keeps (Wp level) brought = now
-  load-keeps CycleOver brought = either (λ (x : Chip). P (x .load)) (isBusy (c .control .phase)) _ c now now
-  load-keeps PowerUp brought = without
+  to-data : (kind : Data) (byte : ℕ) → Keeps byte → P (valuesData kind (c .span) (c .control) byte values)
+  to-data ToArray byte with = put-keeps (c .control .arraycounter) byte with
+  to-data ToSecurity byte with = put-keeps (c .control .securitycounter) byte with
+  to-data (ToConfiguration came) byte with = now
+  to-data (ToLock some) byte with = now
+  to-data ToNowhere byte with = now
+
+  to-phase : (phase : Phase) (byte : ℕ) → Keeps byte → P (valuesIn phase (c .span) (c .control) byte values)
+  to-phase Standby byte with = now
+  to-phase Busy byte with = now
+  to-phase AwaitsAddress byte with = now
+  to-phase AwaitsChoice byte with = now
+  to-phase (AwaitsWord word) byte with = now
+  to-phase (TakesData kind) byte with = to-data kind byte with
+  to-phase (SendsByte source) byte with = now
+
+  pub values-keep : (event : Event) → ((byte : ℕ) → event ≡ Sent byte → Keeps byte) → P (valuesAfter c event values)
+  unfolding valuesAfter taking.valuesAfter
+  values-keep Start with = now
+  values-keep Stop with = now
+  values-keep (Sent byte) with = to-phase (c .control .phase) byte (with byte refl)
+  values-keep (Read nack) with = now
+  values-keep (Wp level) with = now
+  values-keep CycleOver with = now
+  values-keep PowerUp with = now

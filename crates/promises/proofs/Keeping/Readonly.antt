@@ -12,8 +12,7 @@ use Rattle.parts.specs.Part.{geometryOf}
 use Rattle.parts.proofs.part.Laws.{sound-of}
 use Rattle.regions.specs.Page.{inIdPage}
 use Rattle.regions.proofs.page.Laws.{page-behind}
-use Rattle.load.specs.declared.Load.{Load}
-use Rattle.load.specs.Load.{holds, storePage}
+use Rattle.load.specs.Load.{Load, loadOf, holds, storePage}
 use Rattle.load.proofs.Laws.{store-page-before}
 use Rattle.control.specs.declared.Control.{Control}
 use Rattle.control.specs.declared.phase.Data.{Data}
@@ -28,9 +27,9 @@ use Rattle.promises.proofs.Keeping.Shares.{shares-keep}
 
 module _ (c : Control) (load : Load) (array security : List ℕ) (i d : ℕ) (inside : i < geometryOf (c .part) .readonly) where
   -- what is stored lies in the ID page
-  behind : writesSecurity c load ≡ true → geometryOf (c .part) .readonly ≤ c .securitycounter
+  behind : writesSecurity c (load .span) ≡ true → geometryOf (c .part) .readonly ≤ c .securitycounter
   behind writes =
-      let writable : (inIdPage (geometryOf (c .part)) (c .securitycounter) && not (idPageProtected c)) ≡ true = and-right (holds (geometryOf (c .part)) load) _ writes in
+      let writable : (inIdPage (geometryOf (c .part)) (c .securitycounter) && not (idPageProtected c)) ≡ true = and-right (holds (load .span)) _ writes in
       let inside-page : inIdPage (geometryOf (c .part)) (c .securitycounter) ≡ true = and-left _ _ writable in
       leb-true _ _ (and-left _ _ inside-page)
 
@@ -39,19 +38,19 @@ module _ (c : Control) (load : Load) (array security : List ℕ) (i d : ℕ) (in
       store-page-before (geometryOf (c .part)) (c .securitycounter) load security i d
       (omega (arith, page-behind (geometryOf (c .part)) (sound-of (c .part)) (c .securitycounter) (geometryOf (c .part) .readonly) (sound-of (c .part) .readonly-whole) from))
 
-  written : (writes : Bool) → writesSecurity c load ≡ writes → getD (cond {A = Control × List ℕ} writes (busyNow c, storePage (geometryOf (c .part)) (c .securitycounter) load security) (standbyNow c, security) .1) i d ≡ getD security i d
+  written : (writes : Bool) → writesSecurity c (load .span) ≡ writes → getD (cond {A = Control × List ℕ} writes (busyNow c, storePage (geometryOf (c .part)) (c .securitycounter) load security) (standbyNow c, security) .1) i d ≡ getD security i d
   written true is = stored (behind is)
   written false is = refl
 
   data-readonly : (kind : Data) → getD (stopData kind c load array security .2) i d ≡ getD security i d
   data-readonly ToArray = refl
-  data-readonly ToSecurity = written (writesSecurity c load) refl
+  data-readonly ToSecurity = written (writesSecurity c (load .span)) refl
   data-readonly (ToConfiguration came) = refl
   data-readonly (ToLock some) = refl
   data-readonly ToNowhere = refl
 
-pub readonly-kept : (c : Chip) (array security : List ℕ) (event : Event) (i d : ℕ) → i < geometryOf (c .control .part) .readonly → getD (step c array security event .2) i d ≡ getD security i d
-readonly-kept c array security event i d inside =
-    shares-keep c array security (λ (array′ security′ : List ℕ). getD security′ i d ≡ getD security i d) refl
-    (data-readonly (c .control) (c .load) array security i d inside)
+pub readonly-kept : (c : Chip) (values array security : List ℕ) (event : Event) (i d : ℕ) → i < geometryOf (c .control .part) .readonly → getD (step c values array security event .2) i d ≡ getD security i d
+readonly-kept c values array security event i d inside =
+    shares-keep c values array security (λ (array′ security′ : List ℕ). getD security′ i d ≡ getD security i d) refl
+    (data-readonly (c .control) (loadOf (c .span) values) array security i d inside)
     event

@@ -41,29 +41,29 @@ leave Q locks configures =
     }
 
 -- the chip as it stands after an event
-abbrev pub next : Chip → List ℕ → List ℕ → Event → Control
-next c array security event = step c array security event .0 .chip .control
+abbrev pub next : Chip → List ℕ → List ℕ → List ℕ → Event → Control
+next c values array security event = step c values array security event .0 .chip .control
 
-module _ (c : Chip) (array security : List ℕ) (event : Event) where
-  keep : (Q : Registers → Type 0) → Closed (λ (d : Control). Q (registers d)) → Q (registers (c .control)) → Q (registers (next c array security event))
-  keep Q closed = step-keeps (λ (d : Control). Q (registers d)) closed c array security event
+module _ (c : Chip) (values array security : List ℕ) (event : Event) where
+  keep : (Q : Registers → Type 0) → Closed (λ (d : Control). Q (registers d)) → Q (registers (c .control)) → Q (registers (next c values array security event))
+  keep Q closed = step-keeps (λ (d : Control). Q (registers d)) closed c values array security event
 
-  pub part-kept : next c array security event .part ≡ c .control .part
+  pub part-kept : next c values array security event .part ≡ c .control .part
   part-kept =
       let Q : Registers → Type 0 = λ r. r .part ≡ c .control .part in
       keep Q (leave Q (λ d free is. is) (λ d byte0 byte1 free is. is)) refl
 
-  pub strap-kept : next c array security event .strap ≡ c .control .strap
+  pub strap-kept : next c values array security event .strap ≡ c .control .strap
   strap-kept =
       let Q : Registers → Type 0 = λ r. r .strap ≡ c .control .strap in
       keep Q (leave Q (λ d free is. is) (λ d byte0 byte1 free is. is)) refl
 
-  pub id-lock-kept : c .control .idlocked ≡ true → next c array security event .idlocked ≡ true
+  pub id-lock-kept : c .control .idlocked ≡ true → next c values array security event .idlocked ≡ true
   id-lock-kept is-locked =
       let Q : Registers → Type 0 = λ r. r .idlocked ≡ true in
       keep Q (leave Q (λ d free is. refl) (λ d byte0 byte1 free is. is)) is-locked
 
-  pub configuration-lock-kept : configlock (c .control) ≡ true → (next c array security event .config0 ≡ c .control .config0) × (next c array security event .config1 ≡ c .control .config1)
+  pub configuration-lock-kept : configlock (c .control) ≡ true → (next c values array security event .config0 ≡ c .control .config0) × (next c values array security event .config1 ≡ c .control .config1)
   configuration-lock-kept is-locked =
       let Q : Registers → Type 0 = λ r. (r .config0 ≡ c .control .config0) × (r .config1 ≡ c .control .config1) in
       keep Q (leave Q (λ d free is. is) (λ d byte0 byte1 free is. absurd (false≢true (sym free ∙ ap (λ (byte : ℕ). bitOf byte 0) (is .0) ∙ is-locked)))) (refl, refl)

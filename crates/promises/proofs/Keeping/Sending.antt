@@ -9,7 +9,7 @@ use lib.Dec.{ltb}
 use borrow.Author.Tests.{lt-ltb}
 use Rattle.parts.proofs.part.Laws.{sound-of}
 use Rattle.regions.proofs.page.Laws.{next-below}
-use Rattle.load.specs.declared.Load.{Load}
+use Rattle.load.specs.declared.Span.{Span}
 use Rattle.control.specs.declared.Control.{Control}
 use Rattle.control.specs.declared.Answered.{Answered}
 use Rattle.control.specs.declared.phase.Phase.{Phase}
@@ -27,34 +27,34 @@ use Rattle.promises.proofs.Keeping.Good.{Good, Unloaded, unloaded-of, u
 next-id-fits : (place : ℕ) → ltb (nextIdPlace place) 3 ≡ true
 next-id-fits place = lt-ltb _ _ (next-below 3 place (omega arith))
 
-module _ (c : Control) (load : Load) (f : Fits c) (empty : Unloaded c load) where
-  sends : (source : Source) → idPlaceFits source ≡ true → Good (inPhase (SendsByte source) c) load
-  sends source place = moves c load f empty (SendsByte source) place refl
+module _ (c : Control) (span : Span) (f : Fits c) (empty : Unloaded c span) where
+  sends : (source : Source) → idPlaceFits source ≡ true → Good (inPhase (SendsByte source) c) span
+  sends source place = moves c span f empty (SendsByte source) place refl
 
-  reply-good : (nack : Bool) → Good c load → Good (cond nack (inPhase Standby c) c) load
-  reply-good true good = standby c load f empty
+  reply-good : (nack : Bool) → Good c span → Good (cond nack (inPhase Standby c) c) span
+  reply-good true good = standby c span f empty
   reply-good false good = good
 
-moved-good : (source : Source) (c : Control) (load : Load) → Unloaded c load → Good c load → Good (movedPast source c) load
-moved-good FromArray c load empty good =
-    (array-fits c (good .0) _ (next-below _ (c .arraycounter) (array-some (sound-of (c .part)))), unloaded-fits (movedPast FromArray c) load empty)
-moved-good FromSecurity c load empty good =
-    (security-fits c (good .0) _ (next-below _ (c .securitycounter) (sound-of (c .part) .security-some)), unloaded-fits (movedPast FromSecurity c) load empty)
-moved-good (FromConfiguration second) c load empty good = sends c load (good .0) empty (FromConfiguration (not second)) refl
-moved-good (FromId place) c load empty good = sends c load (good .0) empty (FromId (nextIdPlace place)) (next-id-fits place)
-moved-good FromNothing c load empty good = good
+moved-good : (source : Source) (c : Control) (span : Span) → Unloaded c span → Good c span → Good (movedPast source c) span
+moved-good FromArray c span empty good =
+    (array-fits c (good .0) _ (next-below _ (c .arraycounter) (array-some (sound-of (c .part)))), unloaded-fits (movedPast FromArray c) span empty)
+moved-good FromSecurity c span empty good =
+    (security-fits c (good .0) _ (next-below _ (c .securitycounter) (sound-of (c .part) .security-some)), unloaded-fits (movedPast FromSecurity c) span empty)
+moved-good (FromConfiguration second) c span empty good = sends c span (good .0) empty (FromConfiguration (not second)) refl
+moved-good (FromId place) c span empty good = sends c span (good .0) empty (FromId (nextIdPlace place)) (next-id-fits place)
+moved-good FromNothing c span empty good = good
 
 -- no event on this way changes the part, so the load stays empty
-moved-unloaded : (source : Source) (c : Control) (load : Load) → Unloaded c load → Unloaded (movedPast source c) load
-moved-unloaded FromArray c load empty = empty
-moved-unloaded FromSecurity c load empty = empty
-moved-unloaded (FromConfiguration second) c load empty = empty
-moved-unloaded (FromId place) c load empty = empty
-moved-unloaded FromNothing c load empty = empty
+moved-unloaded : (source : Source) (c : Control) (span : Span) → Unloaded c span → Unloaded (movedPast source c) span
+moved-unloaded FromArray c span empty = empty
+moved-unloaded FromSecurity c span empty = empty
+moved-unloaded (FromConfiguration second) c span empty = empty
+moved-unloaded (FromId place) c span empty = empty
+moved-unloaded FromNothing c span empty = empty
 
-pub read-good : (phase : Phase) (c : Control) (load : Load) (array security : List ℕ) (nack : Bool) → c .phase ≡ phase → Good c load → Good (readIn phase c array security nack .control) load
-read-good phase c load array security nack is good =
-    read-either c array security nack (λ (x : Answered). Good (x .control) load) good phase λ source sends.
-    let empty = unloaded-of c load (ap takesData (is ∙ sends)) (good .1) in
-    let moved = moved-good source c load empty good in
-    reply-good (movedPast source c) load (moved .0) (moved-unloaded source c load empty) nack moved
+pub read-good : (phase : Phase) (c : Control) (span : Span) (array security : List ℕ) (nack : Bool) → c .phase ≡ phase → Good c span → Good (readIn phase c array security nack .control) span
+read-good phase c span array security nack is good =
+    read-either c array security nack (λ (x : Answered). Good (x .control) span) good phase λ source sends.
+    let empty = unloaded-of c span (ap takesData (is ∙ sends)) (good .1) in
+    let moved = moved-good source c span empty good in
+    reply-good (movedPast source c) span (moved .0) (moved-unloaded source c span empty) nack moved

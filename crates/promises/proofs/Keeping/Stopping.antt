@@ -5,7 +5,7 @@ use native.Mathlib.Omega.{arith}
 use mathlib.Core.Bool.{not, _&&_}
 use mathlib.Core.List.{List}
 use Rattle.base.proofs.logic.Laws.{either}
-use Rattle.load.specs.declared.Load.{Load}
+use Rattle.load.specs.Load.{Load}
 use Rattle.control.specs.declared.Control.{Control}
 use Rattle.control.specs.declared.phase.Phase.{Phase}
 use Rattle.control.specs.declared.phase.Data.{Data}
@@ -34,9 +34,9 @@ came-fits More c f = standby-now-fits c f
 
 data-fits : (kind : Data) (c : Control) (load : Load) (array security : List ℕ) → Fits c → Fits (stopData kind c load array security .0)
 data-fits ToArray c load array security f =
-    either (λ (x : Control × List ℕ). Fits (x .0)) (writesArray c load) _ _ (busy-now-fits c f) (standby-now-fits c f)
+    either (λ (x : Control × List ℕ). Fits (x .0)) (writesArray c (load .span)) _ _ (busy-now-fits c f) (standby-now-fits c f)
 data-fits ToSecurity c load array security f =
-    either (λ (x : Control × List ℕ). Fits (x .0)) (writesSecurity c load) _ _ (busy-now-fits c f) (standby-now-fits c f)
+    either (λ (x : Control × List ℕ). Fits (x .0)) (writesSecurity c (load .span)) _ _ (busy-now-fits c f) (standby-now-fits c f)
 data-fits (ToConfiguration came) c load array security f = came-fits came c f
 data-fits (ToLock some) c load array security f =
     either Fits (some && not (c .idlocked)) (busyNow (idlockedNow c)) (standbyNow c) (busy-now-fits _ (idlocked-fits c f)) (standby-now-fits c f)

@@ -1,27 +1,23 @@
--- Every event keeps a chip a value of its type, where it is well formed: its numbers are then inside their regions, what came
--- from the host is bytes, and its load has the length it had. By the relation that the checker itself has between values and
--- what they denote.
+-- Every event keeps a chip a value of its type, where it is well formed: its numbers are then inside their regions, and what
+-- came from the host is bytes. By the relation that the checker itself has between values and what they denote. And the values of a load
+-- keep their length.
 use Prim.Native.Nat.{ℕ, _<_, _≤_}
 use native.Mathlib.Omega.{arith}
 use mathlib.Core.Bool.{Bool, true, false, _||_}
 use mathlib.Core.List.{List, [], _∷_}
 use mathlib.Core.Path.{_≡_, _∙_, refl}
 use lib.Dec.{eqb}
-use lib.ListN.{length, length-map, length-set}
-use mir.Syntax.{w8}
-use mir.Val.{Val, vint}
-use borrow.Author.Needs.{length-unmapped}
+use lib.ListN.{length, length-replicate, length-set}
+use mir.Val.{Val}
 use borrow.Author.Tests.{eqb-true, ltb-true}
-use denote.Builtin.{u8}
 use denote.Laws.{Is}
-use Rattle.base.specs.Every.{FitsByte, AllBytes}
-use Rattle.base.proofs.Every.{each-every, every-each}
+use Rattle.base.specs.Every.{AllBytes}
 use Rattle.base.proofs.logic.Laws.{and-left, and-right}
 use Rattle.parts.specs.Part.{isPart, geometryOf}
 use Rattle.parts.proofs.part.Laws.{sound-of}
-use Rattle.load.specs.declared.Load.{Load}
+use Rattle.load.specs.declared.Span.{Span}
 use Rattle.load.specs.Span.{insidePage}
-use Rattle.load.proofs.Load as loads
+use Rattle.load.proofs.Span as spans
 use Rattle.load.proofs.Spanning.{first-below, count-most}
 use Rattle.control.specs.declared.Control.{Control}
 use Rattle.control.specs.declared.phase.Phase.{Phase}
@@ -45,13 +41,13 @@ use Rattle.control.proofs.phase.Source as sources
 use Rattle.control.proofs.phase.Shown as showns
 use Rattle.chip.specs.declared.Chip.{Chip}
 use Rattle.chip.specs.declared.event.Event.{Event}
-use Rattle.chip.specs.Chip.{step}
+use Rattle.chip.specs.Chip.{step, valuesAfter}
 use Rattle.chip.proofs.Typed.{ChipTyped}
 use Rattle.wellformed.specs.Wellformed.{idPlaceFits, placeFits, controlFits, wellFormed}
 use Rattle.promises.specs.ChipBytes.{bytesCame, bytesTaken, bytesAwaiting, bytesIn, ChipBytes, EventByte}
 use Rattle.promises.proofs.Keeping.Bytes.{chip-keeps-bytes}
 use Rattle.promises.proofs.Keeping.Fits.{Fits, apart}
-use Rattle.promises.proofs.Keeping.Loads.{load-keeps}
+use Rattle.promises.proofs.Keeping.Loads.{values-keep}
 use Rattle.promises.proofs.Keeping.Wellformed.{kept}
 
 -- ---- a value of its type holds bytes: what a field of type `u8` denotes is below 256
@@ -86,16 +82,10 @@ phase-bytes (SendsByte source) vs is = tt
 
 pub chip-bytes : (c : Chip) → ChipTyped c → ChipBytes c
 chip-bytes c typed =
-    let control = typed .is .1 .1 .0 .1 .1 in (
-      (control .1 .1 .1 .0 .1, (control .1 .1 .1 .1 .0 .1, phase-bytes (c .control .phase) _ (control .1 .1 .1 .1 .1 .1 .1 .1 .1 .1 .0))),
-      each-every _ _ FitsByte (λ n v byte. byte .1) (c .load .values) _ (typed .is .1 .1 .1 .0 .1 .1 .1 .0 .1 .1),
-    )
+    let control = typed .is .1 .1 .0 .1 .1 in
+    (control .1 .1 .1 .0 .1, (control .1 .1 .1 .1 .0 .1, phase-bytes (c .control .phase) _ (control .1 .1 .1 .1 .1 .1 .1 .1 .1 .1 .0)))
 
--- and its load has its length
-pub values-long : (c : Chip) → ChipTyped c → length (c .load .values) ≡ 256
-values-long c typed = length-unmapped _ (c .load .values) 256 (typed .is .1 .1 .1 .0 .1 .1 .1 .0 .1 .0 .1)
-
--- ---- and the other way: a well-formed chip that holds bytes, with a load of its length
+-- ---- and the other way: a well-formed chip that holds bytes
 came-typed : (came : Came) → AllBytes (bytesCame came) → (u : Val) × Is cames.the-row came (u ∷ [])
 came-typed Zero bytes = (_, (_, (refl, (tt, (refl, tt)))))
 came-typed (One first) bytes = (_, (_, (refl, ((_, tt), (refl, ((refl, bytes .0), tt))))))
@@ -187,29 +177,28 @@ control-typed c f bytes =
     )
 
 -- a span inside a page of at most 256 bytes fits its two fields
-pub load-typed : (load : Load) (page : ℕ) → page ≤ 256 → insidePage page (load .span) ≡ true → length (load .values) ≡ 256 → AllBytes (load .values) → (u : Val) × Is loads.the-row load (u ∷ [])
-load-typed load page most inside long bytes =
-    let values = every-each (λ (n : ℕ). n) (u8 .own) FitsByte (λ n fits. vint w8 n) (λ n fits. (refl, fits)) (load .values) bytes in
-    let first = first-below page (load .span) inside in
-    let count = count-most page (load .span) inside in
-    (_, ((_, (_, tt)), (refl, (((_, (_, tt)), (refl, ((refl, omega (arith, first)), ((refl, omega (arith, count)), tt)))), ((values .0, ((refl, length-map (load .values) _ ∙ long), values .1)), tt)))))
+pub span-typed : (span : Span) (page : ℕ) → page ≤ 256 → insidePage page span ≡ true → (u : Val) × Is spans.the-row span (u ∷ [])
+span-typed span page most inside =
+    let first = first-below page span inside in
+    let count = count-most page span inside in
+    (_, ((_, (_, tt)), (refl, ((refl, omega (arith, first)), ((refl, omega (arith, count)), tt)))))
 
-typed-of : (c : Chip) → wellFormed c ≡ true → ChipBytes c → length (c .load .values) ≡ 256 → ChipTyped c
+typed-of : (c : Chip) → wellFormed c ≡ true → ChipBytes c → ChipTyped c
 unfolding wellFormed
-typed-of c formed bytes long =
+typed-of c formed bytes =
     let fits : Fits (c .control) = apart (c .control) (and-left _ _ formed) in
-    let inside = and-left (insidePage (geometryOf (c .control .part) .page) (c .load .span)) _ (and-right (controlFits (c .control)) _ formed) in
+    let inside = and-left (insidePage (geometryOf (c .control .part) .page) (c .span)) _ (and-right (controlFits (c .control)) _ formed) in
     record {
       value = _;
-      is = ((_, (_, tt)), (refl, (control-typed (c .control) fits (bytes .0) .1, (load-typed (c .load) _ (sound-of (c .control .part) .page-most) inside long (bytes .1) .1, tt))));
+      is = ((_, (_, tt)), (refl, (control-typed (c .control) fits bytes .1, (span-typed (c .span) _ (sound-of (c .control .part) .page-most) inside .1, tt))));
     }
 
 -- so every event keeps it
-long-kept : (c : Chip) (array security : List ℕ) (event : Event) → EventByte event → length (c .load .values) ≡ 256
-    → length (step c array security event .0 .chip .load .values) ≡ 256
-long-kept c array security event brought long =
-    load-keeps c array security (λ (load : Load). length (load .values) ≡ 256) long long (λ at byte sent. length-set (c .load .values) _ byte ∙ long) event brought
+pub chip-typed-kept : (c : Chip) (values array security : List ℕ) (event : Event) → EventByte event → wellFormed c ≡ true → ChipTyped c → ChipTyped (step c values array security event .0 .chip)
+chip-typed-kept c values array security event brought formed typed =
+    typed-of _ (kept c values array security event formed) (chip-keeps-bytes c values array security (chip-bytes c typed) event brought)
 
-pub chip-typed-kept : (c : Chip) (array security : List ℕ) (event : Event) → EventByte event → wellFormed c ≡ true → ChipTyped c → ChipTyped (step c array security event .0 .chip)
-chip-typed-kept c array security event brought formed typed =
-    typed-of _ (kept c array security event formed) (chip-keeps-bytes c array security (chip-bytes c typed) event brought) (long-kept c array security event brought (values-long c typed))
+-- and the length of the values
+pub values-long-kept : (c : Chip) (values : List ℕ) (event : Event) → length values ≡ 256 → length (valuesAfter c event values) ≡ 256
+values-long-kept c values event long =
+    values-keep c values (λ (held : List ℕ). length held ≡ 256) long (length-replicate {A = ℕ} 256 0) event (λ byte is held place so-far. length-set held place byte ∙ so-far)

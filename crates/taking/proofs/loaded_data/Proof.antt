@@ -21,23 +21,23 @@ enum-told-3 c = search needs
 enum-told-4 : tie.Need-enum-told-4
 enum-told-4 c = search needs
 
-emptied-requires : tie.Need-emptied-requires
-emptied-requires c κs = search needs
+dropped-requires : tie.Need-dropped-requires
+dropped-requires c κs = search needs
 
 enum-told-5 : tie.Need-enum-told-5
 enum-told-5 c = search needs
 
 returns : tie.Need-returns
-returns c = rw (c .before .enum-told .given .1) (c .put .ensures)
+returns c = rw (c .before .before .enum-told .given .1) (c .put .ensures)
 
 returns-2 : tie.Need-returns-2
-returns-2 c = rw (c .before .enum-told2 .given .1) (c .put2 .ensures)
+returns-2 c = rw (c .before .before .enum-told2 .given .1) (c .put2 .ensures)
 
 returns-3 : tie.Need-returns-3
 returns-3 c = rw (c .enum-told3 .given .1)
 
 returns-4 : tie.Need-returns-4
-returns-4 c = rw (c .before .before .enum-told4 .given .1, c .before .if1 .taken) (c .emptied .ensures)
+returns-4 c = rw (c .before .before .enum-told4 .given .1, c .before .if1 .taken, c .dropped .ensures)
 
 returns-5 : tie.Need-returns-5
 returns-5 c = rw (c .before .enum-told4 .given .1, c .if1 .left)
@@ -55,7 +55,7 @@ loaded-data-spec =
     put-requires-2
     enum-told-3
     enum-told-4
-    emptied-requires
+    dropped-requires
     enum-told-5
     returns
     returns-2

@@ -6,11 +6,11 @@ use Rattle.chip.proofs.Chip.power_up.Tie as tie
 powered-up-requires : tie.Need-powered-up-requires
 powered-up-requires c κs = search needs
 
-emptied-requires : tie.Need-emptied-requires
-emptied-requires c κs = search needs
+dropped-requires : tie.Need-dropped-requires
+dropped-requires c κs = search needs
 
 returns : tie.Need-returns
-returns c = rw (c .emptied .ensures, c .before .powered-up .ensures)
+returns c = rw (c .dropped .ensures, c .before .powered-up .ensures)
 
 pub power-up-spec : {M : Type 1} → statement M
-power-up-spec = tie.close (tie.spec powered-up-requires emptied-requires returns)
+power-up-spec = tie.close (tie.spec powered-up-requires dropped-requires returns)

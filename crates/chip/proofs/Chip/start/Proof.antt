@@ -13,12 +13,12 @@ returns c = search needs
 in-phase-requires : tie.Need-in-phase-requires
 in-phase-requires c κs = search needs
 
-emptied-requires : tie.Need-emptied-requires
-emptied-requires c κs = search needs
+dropped-requires : tie.Need-dropped-requires
+dropped-requires c κs = search needs
 
 returns-2 : tie.Need-returns-2
-returns-2 c = rw (sym (c .before .before .before .is-busy .ensures) ∙ c .before .before .if1 .left, c .emptied .ensures, c .before .in-phase .ensures)
+returns-2 c = rw (sym (c .before .before .before .is-busy .ensures) ∙ c .before .before .if1 .left, c .dropped .ensures, c .before .in-phase .ensures)
 
 pub start-spec : {M : Type 1} → statement M
 start-spec =
-    tie.close (tie.spec is-busy-requires returns in-phase-requires emptied-requires returns-2)
+    tie.close (tie.spec is-busy-requires returns in-phase-requires dropped-requires returns-2)

@@ -9,9 +9,7 @@ use mathlib.Core.List.{List}
 use borrow.Author.Tests.{leb-true, not-true, not-false}
 use Rattle.base.specs.Store.{patched}
 use Rattle.print.specs.Print.{printed}
-use Rattle.conversation.specs.Tape.{textOn}
 use Rattle.conversation.specs.Pending.{pendingAt, nextPending}
-use Rattle.conversation.proofs.Laws.{text-before, length-before}
 use Rattle.conversation.proofs.pending.next_pending.Statement.{statement}
 use Rattle.conversation.proofs.pending.next_pending.Tie as tie
 
@@ -28,40 +26,25 @@ returns : tie.Need-returns
 unfolding nextPending
 returns c = let room = c .before .before .has-room in rw (← room .ensures, not-true (room .result) (c .before .if1 .taken), c .paused .ensures) refl
 
+-- where there is room
+module _ (c : tie.Else1) where
+  abbrev entry : tie.Start
+  entry = let known = c .before .before .before in known .before .before
+
+  room : entry .args .pending .written + 9 ≤ length (now (entry .args .said))
+  room = leb-true (entry .args .pending .written + 9) (length (now (entry .args .said))) (sym (c .before .has-room .ensures) ∙ not-false _ (c .if1 .left))
+
 answer-word-requires : tie.Need-answer-word-requires
 answer-word-requires c κs = search needs
 
 printed-requires : tie.Need-printed-requires
 printed-requires c κs = search needs
 
--- where there is room
-module _ (c : tie.Else1) where
-  abbrev entry : tie.Start
-  entry = let asked = c .before in let known = asked .before .before in known .before .before
-
-  room : entry .args .pending .written + 9 ≤ length (now (entry .args .said))
-  room = leb-true (entry .args .pending .written + 9) (length (now (entry .args .said))) (sym (c .before .has-room .ensures) ∙ not-false _ (c .if1 .left))
-
 put-requires : tie.Need-put-requires
 put-requires c κs = room (c .before .before .before)
 
-text-end-requires : tie.Need-text-end-requires
-text-end-requires c κs = search needs
-
--- where the answer is in its place, from the text's end
-module _ (c : tie.After-text-end) where
-  abbrev put-there : tie.After-put
-  put-there = c .before .before .before
-
-  abbrev roomy : tie.Else1
-  roomy = let worded = put-there .before .before in worded .before .before
-
-slice-aggregate-pending-at : tie.Need-slice-aggregate-pending-at
-slice-aggregate-pending-at c =
-    let a = entry (roomy (c .before)) .args in length-before (now (a .tape)) (a .filled) (c .before .text-end .ensures)
-
 add-pending-at : tie.Need-add-pending-at
-add-pending-at c = omega (arith, room (roomy (c .before .before)))
+add-pending-at c = let put-there = c .before .before .before in omega (arith, room (put-there .before .before .before .before))
 
 pending-at-requires : tie.Need-pending-at-requires
 pending-at-requires c κs = search needs
@@ -72,13 +55,12 @@ same-length-2 c = search needs
 returns-2 : tie.Need-returns-2
 unfolding nextPending
 returns-2 c =
-    let p = c .before .before in let t = p .before .before .before in let b = roomy t in let a = entry b .args in
-    let asked = b .before .has-room in let store = put-there t .put in let worded = put-there t .before .before in
+    let p = c .before .before in let put-there = p .before .before .before .before in let worded = put-there .before .before in
+    let b = worded .before .before in let a = entry b .args in let asked = b .before .has-room in
     rw (← asked .ensures, not-false (asked .result) (b .if1 .left))
     (p .pending-at .ensures
-    ∙ ap (λ (text : List ℕ). pendingAt text (a .pending .at) (store .last .1 .0) (a .pending .written + 9)) (text-before (now (a .tape)) (a .filled) (t .text-end .ensures))
-    ∙ ap (λ (said : List ℕ). pendingAt (textOn (now (a .tape)) (a .filled)) (a .pending .at) said (a .pending .written + 9))
-    (store .ensures
+    ∙ ap (λ (said : List ℕ). pendingAt (now (a .text)) (a .pending .at) said (a .pending .written + 9))
+    (put-there .put .ensures
     ∙ ap (λ (line : List ℕ). patched (a .pending .written) line (now (a .said))) (worded .printed .ensures ∙ ap (printed (a .pending .event)) (worded .before .answer-word .ensures))))
 
 pub next-pending-spec : {M : Type 1} → statement M
@@ -92,8 +74,6 @@ next-pending-spec =
     answer-word-requires
     printed-requires
     put-requires
-    text-end-requires
-    slice-aggregate-pending-at
     add-pending-at
     pending-at-requires
     same-length-2

@@ -4,6 +4,7 @@ use mathlib.Core.Bool.{Bool, not}
 use mathlib.Core.List.{List, [], _∷_, _++_}
 use lib.Dec.{leb}
 use lib.ListN.{length}
+use Rattle.chip.specs.declared.Chip.{Chip}
 use Rattle.chip.specs.declared.event.Event.{Event}
 use Rattle.refusal.specs.declared.Refusal.{Refusal}
 use Rattle.refusal.specs.declared.Refusal.the-variants.{NotWellFormed, WrongLength, WrongValue}
@@ -20,6 +21,7 @@ use Rattle.lineup.specs.Wellformed.{wellFormed}
 use Rattle.line.specs.Line.{lineChecks, OnLine, chipsOf, saidOf, playWith, lineReply}
 use Rattle.bus.specs.declared.Bus.{Bus}
 use Rattle.bus.specs.declared.Stepped.{Stepped}
+use Rattle.bus.specs.declared.Done.{Done}
 
 -- the state, then both stores
 abbrev pub entryChecks : Bus → List ℕ → List ℕ → List (Bool × Refusal)
@@ -39,6 +41,13 @@ eventChecks bus word = decodeChecks (bus .count) word ++ lineChecks (addressedOf
 abbrev pub stepChecks : Bus → List ℕ → List ℕ → ℕ → List (Bool × Refusal)
 stepChecks bus array security word = entryChecks bus array security ++ eventChecks bus word
 
+-- a state of its parts, and what is handed back of one: the chips and an answer, beside the count and the values
+abbrev pub busWith : ℕ → List Chip → List ℕ → Bus
+busWith count chips values = record { count = count; chips = chips; values = values }
+
+abbrev pub handed : ℕ → Done → List ℕ → Stepped
+handed count done values = record { bus = busWith count (done .chips) values; answer = done .answer }
+
 -- a refused step returns the state it was given, and leaves both stores
 abbrev pub refused : Refusal → Bus → List ℕ → List ℕ → WithStores Stepped
 refused refusal bus array security = (record { bus = bus; answer = answer.Refused refusal }, array, security)
@@ -46,7 +55,7 @@ refused refusal bus array security = (record { bus = bus; answer = answer.Refuse
 -- what the line made of an event, and the values that it has then
 abbrev pub done : Event → ℕ → OnLine × List ℕ → WithStores Stepped
 done event count (line, values) = (
-  record { bus = record { count = count; chips = chipsOf line; values = values }; answer = answer.Done (lineReply event (saidOf line)) },
+  record { bus = busWith count (chipsOf line) values; answer = answer.Done (lineReply event (saidOf line)) },
   arrayOf line,
   securityOf line,
 )

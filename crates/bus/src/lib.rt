@@ -24,7 +24,8 @@ ghost use Rattle.refusal.specs.Checks.{firstOf};
 ghost use Rattle.board.specs.Place.{placed};
 ghost use Rattle.lineup.specs.Wellformed.{wellFormed};
 ghost use Rattle.bus.specs.Setup.{empty, setUpChecks, freshChips, setUp};
-ghost use Rattle.bus.specs.Step.{entryChecks, chipChecks, eventChecks, played, event, stepGiven, step};
+ghost use Rattle.bus.specs.Step.{entryChecks, chipChecks, busWith, handed, eventChecks, played, event, stepGiven, step};
+ghost use mathlib.Core.List.{[]};
 ghost use Rattle.bus.specs.Run.{runUpTo, outcome, run};
 
 pub struct Bus {
@@ -137,12 +138,19 @@ impl Bus {
     ) -> Stepped
         ensures { λ r. ⌜ (r, now (array .exit), now (security .exit)) ≡ stepGiven entry self (now (array .entry)) (now (security .entry)) word ⌝ }
     {
-        match entry {
-            Verdict::Refused(refusal) => Stepped {
-                bus: self,
-                answer: Answer::Refused(refusal),
+        let count = self.count;
+        let chips = self.chips;
+        let mut values = self.values;
+        let done = given(entry, count, chips, &mut values, array, security, word);
+        let next = done.chips;
+        let answer = done.answer;
+        Stepped {
+            bus: Bus {
+                count,
+                chips: next,
+                values,
             },
-            Verdict::Passed => event(self, array, security, word),
+            answer,
         }
     }
 
@@ -208,49 +216,80 @@ fn fresh_chips(count: usize, places: [Place; PLACES]) -> [Chip; PLACES]
 }
 
 // Checks 6, 7, 12 and 8.
-fn event_verdict(bus: Bus, word: u16) -> Verdict
-    ensures { λ r. ⌜ r ≡ firstOf (eventChecks bus word) ⌝ }
+fn event_verdict(count: usize, chips: [Chip; PLACES], word: u16) -> Verdict
+    ensures { λ r. ⌜ r ≡ firstOf (eventChecks (busWith count chips []) word) ⌝ }
 {
-    let verdict = decode_verdict(bus.count, word);
+    let verdict = decode_verdict(count, word);
     match verdict {
         Verdict::Refused(refusal) => Verdict::Refused(refusal),
-        Verdict::Passed => {
-            let chips = bus.chips;
-            line_verdict(addressed_of(word), bus.count, chips)
-        }
+        Verdict::Passed => line_verdict(addressed_of(word), count, chips),
     }
 }
 
-fn played(addressed: Addressed, bus: Bus, array: &mut [u8], security: &mut [u8]) -> Stepped
-    ensures { λ r. ⌜ (r, now (array .exit), now (security .exit)) ≡ played addressed bus (now (array .entry)) (now (security .entry)) ⌝ }
+// What an event leaves of the chips, and its answer. Values and stores are lent, so that they are not copied from function to function.
+struct Done {
+    chips: [Chip; PLACES],
+    answer: Answer,
+}
+
+fn played(
+    addressed: Addressed,
+    count: usize,
+    chips: [Chip; PLACES],
+    values: &mut [u8; PAGE_MOST],
+    array: &mut [u8],
+    security: &mut [u8],
+) -> Done
+    ensures { λ r. ⌜ (handed count r (now (values .exit)), now (array .exit), now (security .exit)) ≡ played addressed (busWith count chips (now (values .entry))) (now (array .entry)) (now (security .entry)) ⌝ }
 {
-    let count = bus.count;
-    let chips = bus.chips;
-    let mut values = bus.values;
-    let world = line::play(addressed, count, chips, &mut values, array, security);
+    let world = line::play(addressed, count, chips, values, array, security);
     let next = world.chips;
     let said = world.said;
-    Stepped {
-        bus: Bus {
-            count,
-            chips: next,
-            values,
-        },
+    Done {
+        chips: next,
         answer: Answer::Done(line_reply(event_of(addressed), said)),
     }
 }
 
 // One event of a state that has passed 10 and 5.
-fn event(bus: Bus, array: &mut [u8], security: &mut [u8], word: u16) -> Stepped
-    ensures { λ r. ⌜ (r, now (array .exit), now (security .exit)) ≡ event bus (now (array .entry)) (now (security .entry)) word ⌝ }
+fn event(
+    count: usize,
+    chips: [Chip; PLACES],
+    values: &mut [u8; PAGE_MOST],
+    array: &mut [u8],
+    security: &mut [u8],
+    word: u16,
+) -> Done
+    ensures { λ r. ⌜ (handed count r (now (values .exit)), now (array .exit), now (security .exit)) ≡ event (busWith count chips (now (values .entry))) (now (array .entry)) (now (security .entry)) word ⌝ }
 {
-    let verdict = event_verdict(bus, word);
+    let verdict = event_verdict(count, chips, word);
     match verdict {
-        Verdict::Refused(refusal) => Stepped {
-            bus,
+        Verdict::Refused(refusal) => Done {
+            chips,
             answer: Answer::Refused(refusal),
         },
-        Verdict::Passed => played(addressed_of(word), bus, array, security),
+        Verdict::Passed => played(addressed_of(word), count, chips, values, array, security),
+    }
+}
+
+// The same, given what the checks at entry say.
+fn given(
+    entry: Verdict,
+    count: usize,
+    chips: [Chip; PLACES],
+    values: &mut [u8; PAGE_MOST],
+    array: &mut [u8],
+    security: &mut [u8],
+    word: u16,
+) -> Done
+    ensures { λ r. ⌜ (handed count r (now (values .exit)), now (array .exit), now (security .exit)) ≡ stepGiven entry (busWith count chips (now (values .entry))) (now (array .entry)) (now (security .entry)) word ⌝ }
+{
+    match entry {
+        Verdict::Refused(refusal) => Done {
+            chips,
+            answer: Answer::Refused(refusal),
+        },
+        Verdict::Passed => event(count, chips, values, array, security, word),
     }
 }
 
@@ -267,7 +306,7 @@ fn run_all(
     let mut next = bus;
     let mut i: usize = 0;
     while i < events.len() {
-        let stepped = event(next, array, security, events[i]);
+        let stepped = next.step_given(Verdict::Passed, array, security, events[i]);
         let answer = stepped.answer;
         let after = stepped.bus;
         answers[i] = answer_word(answer);

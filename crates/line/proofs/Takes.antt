@@ -1,6 +1,6 @@
 -- One iteration of a loop over the chips is `chipTakes`: shares that are cut at the stores' ends are the spans of the definition, and what a
 -- chip makes of the event on its shares lands in its place.
-use Prim.Native.Nat.{ℕ, _+_, _-_, _<_, _≤_}
+use Prim.Native.Nat.{ℕ, _+_, _-_, _*_, _^_, _<_, _≤_}
 use native.Mathlib.Decide.{decLe}
 use native.Mathlib.Omega.{arith}
 use mathlib.Core.Bool.{Bool, true, false, cond}
@@ -21,26 +21,28 @@ use Rattle.chip.specs.declared.Stepped.{Stepped}
 use Rattle.chip.specs.Chip.{quiet, taken, read, stop, moved, meetsNothing, step, valuesAfter}
 use Rattle.chip.specs.declared.event.Event.the-variants.{Stop, Sent, Read}
 use Rattle.parts.specs.Part.{geometryOf}
+use Rattle.parts.proofs.part.Laws.{sound-of}
 use Rattle.chip.proofs.Laws.{isSent, moves-alone, only-sent-loads}
 use Rattle.board.specs.declared.Place.{Place}
-use Rattle.board.specs.Place.{placed}
+use Rattle.board.specs.Place.{placeAt, placed}
 use Rattle.board.specs.Shares.{figuresAt, arrayStart, securityStart}
 use Rattle.decode.specs.declared.Addressed.{Addressed}
 use Rattle.decode.specs.Decode.{reaches, eventOf}
 use Rattle.lineup.specs.Chips.{noChip, chipAt, placesOf}
 use Rattle.lineup.proofs.Laws.{place-at}
 use Rattle.line.specs.Line as line
-use Rattle.line.specs.Line.{chipLoads, arrayShare, securityShare, heard, OnLine, landed, chipTakes}
+use Rattle.line.specs.declared.Ends.{Ends}
+use Rattle.line.specs.Line.{chipLoads, shareEnds, arrayShare, securityShare, heard, OnLine, landed, chipTakes}
 
 abbrev pub onLine : List Chip → Said → List ℕ → List ℕ → OnLine
 onLine chips said array security = (record { chips = chips; said = said }, array, security)
 
 -- where a cut share ends, from where it starts: behind its start, inside the store, and where the next one starts
 module _ (start size len at end : ℕ) (begins : at ≡ least start len) (ends : end ≡ least (at + size) len) where
-  pub share-ends : end ≡ least (start + size) len
+  share-ends : end ≡ least (start + size) len
   share-ends = ends ∙ ap (λ (from : ℕ). least (from + size) len) begins ∙ least-step start size len
 
-  pub share-lies : (at ≤ end) × (end ≤ len)
+  share-lies : (at ≤ end) × (end ≤ len)
   share-lies = go (decLe (at + size) len)
     where
       go : Dec (at + size ≤ len) → (at ≤ end) × (end ≤ len)
@@ -50,12 +52,60 @@ module _ (start size len at end : ℕ) (begins : at ≡ least start len) (ends :
           (omega (arith, begins, least-most start len), omega arith)
 
 -- the next share starts where this one ends
-pub next-begins : (share : ℕ → ℕ) (i len most at end : ℕ) → at ≡ least (upTo (λ (j from : ℕ). from + share j) i 0) len → end ≡ least (at + share i) len → len ≡ most
+next-begins : (share : ℕ → ℕ) (i len most at end : ℕ) → at ≡ least (upTo (λ (j from : ℕ). from + share j) i 0) len → end ≡ least (at + share i) len → len ≡ most
     → end ≡ least (upTo (λ (j from : ℕ). from + share j) (i + 1) 0) most
 next-begins share i len most at end begins ends same =
     share-ends (upTo (λ (j from : ℕ). from + share j) i 0) (share i) len at end begins ends
     ∙ ap (λ (start : ℕ). least start len) (up-more (λ (j from : ℕ). from + share j) i 0 refl refl)
     ∙ ap (least (upTo (λ (j from : ℕ). from + share j) (i + 1) 0)) same
+
+-- where the shares of chip i lie in stores of some lengths: where they start, and where `share_ends` has them end
+pub record Cut (places : List Place) (i at from array security : ℕ) (ends : Ends) : Type 0 where
+  pub array-begins : at ≡ least (arrayStart places i) array
+  pub array-ends : ends .array ≡ least (at + figuresAt places i .array) array
+  pub security-begins : from ≡ least (securityStart places i) security
+  pub security-ends : ends .security ≡ least (from + figuresAt places i .security) security
+
+module _ {places : List Place} {i at from array security : ℕ} {ends : Ends} (cut : Cut places i at from array security ends) where
+  pub array-end : ends .array ≡ least (arrayStart places i + figuresAt places i .array) array
+  array-end = share-ends _ _ _ _ _ (cut .array-begins) (cut .array-ends)
+
+  pub array-lies : (at ≤ ends .array) × (ends .array ≤ array)
+  array-lies = share-lies _ _ _ _ _ (cut .array-begins) (cut .array-ends)
+
+  pub array-next : (most : ℕ) → array ≡ most → ends .array ≡ least (arrayStart places (i + 1)) most
+  array-next most = next-begins (λ (k : ℕ). figuresAt places k .array) i array most at (ends .array) (cut .array-begins) (cut .array-ends)
+
+  -- parts are small, so that sums of shares are
+  pub array-small : at ≤ i * 2 ^ 24 → ends .array ≤ (i + 1) * 2 ^ 24
+  array-small small = omega (arith, cut .array-ends, least-most (at + figuresAt places i .array) array, sound-of (placeAt places i .part) .array-most)
+
+  pub security-end : ends .security ≡ least (securityStart places i + figuresAt places i .security) security
+  security-end = share-ends _ _ _ _ _ (cut .security-begins) (cut .security-ends)
+
+  pub security-lies : (from ≤ ends .security) × (ends .security ≤ security)
+  security-lies = share-lies _ _ _ _ _ (cut .security-begins) (cut .security-ends)
+
+  pub security-next : (most : ℕ) → security ≡ most → ends .security ≡ least (securityStart places (i + 1)) most
+  security-next most = next-begins (λ (k : ℕ). figuresAt places k .security) i security most from (ends .security) (cut .security-begins) (cut .security-ends)
+
+  pub security-small : from ≤ i * 2 ^ 24 → ends .security ≤ (i + 1) * 2 ^ 24
+  security-small small = omega (arith, cut .security-ends, least-most (from + figuresAt places i .security) security, sound-of (placeAt places i .part) .security-most)
+
+-- a chip that the loop has not come to is as it came, so its part is the one on the board
+pub cut-at : (chips next : List Chip) (i at from array security : ℕ) (ends : Ends) → i < 4 → chipAt next i ≡ chipAt chips i
+    → at ≡ least (arrayStart (placesOf chips) i) array
+    → from ≡ least (securityStart (placesOf chips) i) security
+    → ends ≡ shareEnds (geometryOf (chipAt next i .control .part)) at from array security
+    → Cut (placesOf chips) i at from array security ends
+cut-at chips next i at from array security ends below same begins begins′ is =
+    let figured : geometryOf (chipAt next i .control .part) ≡ figuresAt (placesOf chips) i = rw (place-at chips i below) (ap (λ (c : Chip). geometryOf (c .control .part)) same) in
+    record {
+      array-begins = begins;
+      array-ends = rw (← figured) (ap (λ (e : Ends). e .array) is);
+      security-begins = begins′;
+      security-ends = rw (← figured) (ap (λ (e : Ends). e .security) is);
+    }
 
 -- a part that is lent from a cut start to a cut end, and handed back
 module _ (start size from to : ℕ) (store : List ℕ) (begins : from ≡ least start (length store)) (ends : to ≡ least (start + size) (length store)) where
@@ -162,10 +212,6 @@ module _ (addressed : Addressed) (values : List ℕ) (places : List Place) (i : 
           → (stepped, share, share′) ≡ cond reached (step c values share share′ (eventOf addressed)) (quiet c, share, share′)
       go true does = rw is (ap (λ (x : Stepped). (x, share, share′)) does)
       go false does = ap (λ (x : Stepped). (x, share, share′)) does
-
--- a chip that the loop has not come to is as it came, so its part is the one on the board
-pub figures-there : (chips next : List Chip) (i : ℕ) → i < 4 → chipAt next i ≡ chipAt chips i → geometryOf (chipAt next i .control .part) ≡ figuresAt (placesOf chips) i
-figures-there chips next i below same = rw (place-at chips i below) (ap (λ (c : Chip). geometryOf (c .control .part)) same)
 
 -- an event that is no byte sent leaves the values
 pub values-stay : (addressed : Addressed) (count : ℕ) (chips : List Chip) (values : List ℕ) → isSent (eventOf addressed) ≡ false → values ≡ line.valuesAfter addressed count chips values

@@ -2,11 +2,23 @@
 use Rattle.refusal.specs.declared.Verdict.{Verdict}
 use Rattle.bus.specs.Step.{stepBy, event}
 use Rattle.decode.specs.declared.Addressed.{Addressed}
-use Rattle.bus.specs.Step.{played}
+use Rattle.bus.specs.Step.{busWith, played}
 use mathlib.Core.Path.{_≡_, _∙_, ap, sym}
 use borrow.Author.Needs.{needs}
 use Rattle.bus.proofs.event.Statement.{statement}
 use Rattle.bus.proofs.event.Tie as tie
+
+module _ (c : tie.After-event-verdict) where
+  abbrev entry : tie.Start
+  entry = c .before .before .before
+
+  decides : {v : Verdict} → c .event-verdict .result ≡ v
+      → let a = entry .args in let bus = busWith (a .count) (a .chips) (a .values .now) in
+      stepBy v bus (a .array .now) (a .security .now) (a .word) ≡ event bus (a .array .now) (a .security .now) (a .word)
+  unfolding event
+  decides is =
+      let a = entry .args in
+      ap (λ (v : Verdict). stepBy v (busWith (a .count) (a .chips) (a .values .now)) (a .array .now) (a .security .now) (a .word)) (sym is ∙ c .event-verdict .ensures)
 
 event-verdict-requires : tie.Need-event-verdict-requires
 event-verdict-requires c κs = search needs
@@ -23,15 +35,6 @@ addressed-of-requires c κs = search needs
 played-requires : tie.Need-played-requires
 played-requires c κs = search needs
 
-module _ (c : tie.After-event-verdict) where
-  abbrev entry : tie.Start
-  entry = c .before .before .before
-
-  decides : {v : Verdict} → c .event-verdict .result ≡ v
-      → let a = entry .args in stepBy v (a .bus) (a .array .now) (a .security .now) (a .word) ≡ event (a .bus) (a .array .now) (a .security .now) (a .word)
-  unfolding event
-  decides is = let a = entry .args in ap (λ (v : Verdict). stepBy v (a .bus) (a .array .now) (a .security .now) (a .word)) (sym is ∙ c .event-verdict .ensures)
-
 returns : tie.Need-returns
 returns c = decides (c .before .before .before) (c .before .verdict .given .1)
 
@@ -43,9 +46,10 @@ same-length-2 c = search needs
 
 returns-2 : tie.Need-returns-2
 returns-2 c =
-    let handed-back = c .before .before .before in let p = handed-back .before in
-    let o = p .before .before .before in let told = o .before in let v = told .before .before in let a = entry v .args in
-    p .played .ensures ∙ ap (λ (o : Addressed). played o (a .bus) (a .array .now) (a .security .now)) (o .addressed-of .ensures) ∙ decides v (told .enum-told .given .1)
+    let v = c .before .before .before .before .before .before .before .before .before .before .before in let a = entry v .args in
+    c .before .before .before .before .played .ensures
+    ∙ ap (λ (o : Addressed). played o (busWith (a .count) (a .chips) (a .values .now)) (a .array .now) (a .security .now)) (c .before .before .before .before .before .before .before .before .addressed-of .ensures)
+    ∙ decides v (c .before .before .before .before .before .before .before .before .before .enum-told .given .1)
 
 pub event-spec : {M : Type 1} → statement M
 event-spec =

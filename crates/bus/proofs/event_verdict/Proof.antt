@@ -1,17 +1,19 @@
 -- The word's checks first; where they pass, those of the line.
+use Prim.Native.Nat.{ℕ}
+use mathlib.Core.List.{List}
+use Rattle.chip.specs.declared.Chip.{Chip}
 use mathlib.Core.Path.{_∙_, sym, ap}
-use borrow.Author.Needs.{needs}
 use Rattle.refusal.specs.Checks.{firstOf}
 use Rattle.refusal.proofs.Checks.{Checks, refused-first, passed-first}
 use Rattle.decode.specs.declared.Addressed.{Addressed}
 use Rattle.decode.specs.Decode.{decodeChecks, addressedOf}
 use Rattle.line.specs.Line.{lineChecks}
-use Rattle.bus.specs.declared.Bus.{Bus}
+use borrow.Author.Needs.{needs}
 use Rattle.bus.proofs.event_verdict.Statement.{statement}
 use Rattle.bus.proofs.event_verdict.Tie as tie
 
-abbrev onLine : Bus → Addressed → Checks
-onLine bus addressed = lineChecks addressed (bus .count) (bus .chips)
+abbrev onLine : ℕ → List Chip → Addressed → Checks
+onLine count chips addressed = lineChecks addressed count chips
 
 decode-verdict-requires : tie.Need-decode-verdict-requires
 decode-verdict-requires c κs = search needs
@@ -32,15 +34,15 @@ returns : tie.Need-returns
 returns c =
     let decoded = c .before .before .before in
     let a = decoded .before .args in
-    sym (refused-first (decodeChecks (a .bus .count) (a .word)) (onLine (a .bus) (addressedOf (a .word))) _ (sym (decoded .decode-verdict .ensures) ∙ c .before .verdict .given .1))
+    sym (refused-first (decodeChecks (a .count) (a .word)) (onLine (a .count) (a .chips) (addressedOf (a .word))) _ (sym (decoded .decode-verdict .ensures) ∙ c .before .verdict .given .1))
 
 returns-2 : tie.Need-returns-2
 returns-2 c =
-    let decoded = c .before .before .before .before .before in
+    let decoded = c .before .before .before .before in
     let a = decoded .before .args in
     c .line-verdict .ensures
-    ∙ ap (λ (addressed : Addressed). firstOf (onLine (a .bus) addressed)) (c .before .addressed-of .ensures)
-    ∙ sym (passed-first (decodeChecks (a .bus .count) (a .word)) (onLine (a .bus) (addressedOf (a .word))) (sym (decoded .decode-verdict .ensures) ∙ c .before .before .before .enum-told .given .1))
+    ∙ ap (λ (addressed : Addressed). firstOf (onLine (a .count) (a .chips) addressed)) (c .before .addressed-of .ensures)
+    ∙ sym (passed-first (decodeChecks (a .count) (a .word)) (onLine (a .count) (a .chips) (addressedOf (a .word))) (sym (decoded .decode-verdict .ensures) ∙ c .before .before .enum-told .given .1))
 
 pub event-verdict-spec : {M : Type 1} → statement M
 event-verdict-spec =

@@ -23,7 +23,9 @@ same-length-2 c = search needs
 
 returns : tie.Need-returns
 unfolding played
-returns c = rw (c .line-reply .ensures, c .before .event-of .ensures) (ap (done (eventOf (c .before .before .before .before .before .before .before .before .before .before .before .before .before .before .before .args .addressed)) (c .before .before .before .before .before .before .before .before .before .before .before .before .before .before .before .args .bus .count)) (c .before .before .before .before .before .before .before .play .ensures))
+returns c =
+    let a = c .before .before .before .before .before .before .before .before .before .before .before .before .before .args in
+    rw (c .line-reply .ensures, c .before .event-of .ensures) (ap (done (eventOf (a .addressed)) (a .count)) (c .before .before .before .before .before .before .before .play .ensures))
 
 pub played-spec : {M : Type 1} → statement M
 played-spec =

@@ -20,14 +20,14 @@ loop-holds : tie.Need-loop-holds Inv-loop μ-loop
 unfolding upTo
 loop-holds c = (refl, refl, refl, refl, omega arith)
 
-mul-event : tie.Need-mul-event Inv-loop μ-loop
-mul-event c = omega arith
+mul-step-given : tie.Need-mul-step-given Inv-loop μ-loop
+mul-step-given c = omega arith
 
-shared-slice-read-event : tie.Need-shared-slice-read-event Inv-loop μ-loop
-shared-slice-read-event c = omega arith
+shared-slice-read-step-given : tie.Need-shared-slice-read-step-given Inv-loop μ-loop
+shared-slice-read-step-given c = omega arith
 
-event-requires : tie.Need-event-requires Inv-loop μ-loop
-event-requires c κs = search needs
+step-given-requires : tie.Need-step-given-requires Inv-loop μ-loop
+step-given-requires c κs = search needs
 
 answer-word-requires : tie.Need-answer-word-requires Inv-loop μ-loop
 answer-word-requires c κs = search needs
@@ -46,10 +46,10 @@ loop-less c = omega arith
 
 loop-again : tie.Need-loop-again Inv-loop μ-loop
 loop-again c = let l = c .before .before .before .before .before .before .before .before .before .before .before .loop in
-    let e = c .before .before .before .before .before .before .event in (
+    let e = c .before .before .before .before .before .before .step-given in (
       up-more (runEvent (c .before .before .before .before .before .before .before .before .before .before .before .before .before .before .before .before .args .events .now)) (l .i) _ (l .inv .0) (rw (c .answer-word .ensures) (ap (noted (l .i) (l .answers)) (e .ensures))),
-      e .kept .1 .0 ∙ l .inv .1,
-      e .kept .1 .1 .0 ∙ l .inv .2,
+      e .kept .1 .1 .0 ∙ l .inv .1,
+      e .kept .1 .1 .1 .0 ∙ l .inv .2,
       length-set (l .answers) (l .i) _ ∙ l .inv .3,
       omega (arith, c .before .before .before .before .before .before .before .before .before .before .loop-test .taken),
     )
@@ -74,9 +74,9 @@ run-all-spec =
     Inv-loop
     μ-loop
     loop-holds
-    mul-event
-    shared-slice-read-event
-    event-requires
+    mul-step-given
+    shared-slice-read-step-given
+    step-given-requires
     answer-word-requires
     mul-answers
     slice-write-answers

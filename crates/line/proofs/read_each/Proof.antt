@@ -1,25 +1,21 @@
 -- Each iteration is what the definition has of its chip (Takes), from where its shares start; parts are small, so that their sums fit.
-use Prim.Native.Nat.{ℕ, _+_, _-_, _*_, _^_, _≤_}
+use Prim.Native.Nat.{ℕ, _-_, _*_, _^_, _≤_}
 use native.Mathlib.Omega.{arith}
 use mathlib.Core.List.{List}
-use mathlib.Core.Path.{_≡_, _∙_, refl, sym, ap}
+use mathlib.Core.Path.{_≡_, _∙_, refl, sym}
 use lib.ListN.{length}
 use lib.Seq.{getD-set-other}
 use borrow.Author.Needs.{needs}
 use Rattle.base.specs.Fold.{upTo}
 use Rattle.base.specs.Least.{least}
 use Rattle.base.proofs.Fold.{up-more, up-end}
-use Rattle.base.proofs.number.Laws.{least-first, least-most}
-use Rattle.parts.specs.Part.{geometryOf}
-use Rattle.parts.proofs.part.Laws.{sound-of}
+use Rattle.base.proofs.number.Laws.{least-first}
 use Rattle.board.specs.declared.Place.{Place}
-use Rattle.board.specs.Place.{placeAt}
 use Rattle.board.specs.Shares.{figuresAt, arrayStart, securityStart}
 use Rattle.board.proofs.Laws.{placed-most}
 use Rattle.lineup.specs.Chips.{noChip, chipAt, placesOf}
-use Rattle.line.specs.declared.Ends.{Ends}
 use Rattle.line.specs.Line.{chipTakes, play}
-use Rattle.line.proofs.Takes.{onLine, share-ends, share-lies, next-begins, lent, kept, shares-land, takes-read, figures-there}
+use Rattle.line.proofs.Takes.{onLine, Cut, array-end, array-lies, array-next, array-small, security-end, security-lies, security-next, security-small, cut-at, lent, kept, shares-land, takes-read}
 use Rattle.line.proofs.read_each.Statement.{statement}
 use Rattle.line.proofs.read_each.Tie as tie
 use Rattle.line.proofs.read_each.Statement.{statement}
@@ -52,29 +48,10 @@ module _ (c : tie.After-share-ends Inv-loop μ-loop) where
   abbrev places : List Place
   places = placesOf (outside .args .chips)
 
-  figured : geometryOf (chipAt (head .loop .next) (head .loop .i) .control .part) ≡ figuresAt places (head .loop .i)
-  figured =
-      figures-there (outside .args .chips) (head .loop .next) (head .loop .i) (omega (arith, few (head .before), c .before .before .loop-test .taken))
-      (head .loop .inv .5 (head .loop .i) (omega arith))
-
-  -- where its share of each store starts and ends: inside the store
-  array-begins : head .loop .at ≡ least (arrayStart places (head .loop .i)) (length (outside .args .array .now))
-  array-begins = head .loop .inv .1
-
-  array-ends : c .share-ends .result .array ≡ least (head .loop .at + figuresAt places (head .loop .i) .array) (length (outside .args .array .now))
-  array-ends = rw (← figured) (ap (λ (ends : Ends). ends .array) (c .share-ends .ensures))
-
-  array-lies : (head .loop .at ≤ c .share-ends .result .array) × (c .share-ends .result .array ≤ length (outside .args .array .now))
-  array-lies = share-lies _ _ _ _ _ array-begins array-ends
-
-  security-begins : head .loop .from ≡ least (securityStart places (head .loop .i)) (length (outside .args .security .now))
-  security-begins = head .loop .inv .2
-
-  security-ends : c .share-ends .result .security ≡ least (head .loop .from + figuresAt places (head .loop .i) .security) (length (outside .args .security .now))
-  security-ends = rw (← figured) (ap (λ (ends : Ends). ends .security) (c .share-ends .ensures))
-
-  security-lies : (head .loop .from ≤ c .share-ends .result .security) × (c .share-ends .result .security ≤ length (outside .args .security .now))
-  security-lies = share-lies _ _ _ _ _ security-begins security-ends
+  cut : Cut places (head .loop .i) (head .loop .at) (head .loop .from) (length (outside .args .array .now)) (length (outside .args .security .now)) (c .share-ends .result)
+  cut =
+      cut-at (outside .args .chips) (head .loop .next) (head .loop .i) (head .loop .at) (head .loop .from) _ _ _
+      (omega (arith, few (head .before), c .before .before .loop-test .taken)) (head .loop .inv .5 (head .loop .i) (omega arith)) (head .loop .inv .1) (head .loop .inv .2) (c .share-ends .ensures)
 
 placed-requires : tie.Need-placed-requires Inv-loop μ-loop
 placed-requires c κs = search needs
@@ -99,22 +76,22 @@ reaches-requires : tie.Need-reaches-requires Inv-loop μ-loop
 reaches-requires c κs = search needs
 
 sub-read-if : tie.Need-sub-read-if Inv-loop μ-loop
-sub-read-if c = omega (arith, array-lies (c .before))
+sub-read-if c = omega (arith, array-lies (cut (c .before)))
 
 part-read-if-start : tie.Need-part-read-if-start Inv-loop μ-loop
-part-read-if-start c = array-lies (c .before) .0
+part-read-if-start c = array-lies (cut (c .before)) .0
 
 part-read-if-end : tie.Need-part-read-if-end Inv-loop μ-loop
-part-read-if-end c = array-lies (c .before) .1
+part-read-if-end c = array-lies (cut (c .before)) .1
 
 sub-read-if-2 : tie.Need-sub-read-if-2 Inv-loop μ-loop
-sub-read-if-2 c = omega (arith, security-lies (c .before .before))
+sub-read-if-2 c = omega (arith, security-lies (cut (c .before .before)))
 
 part-read-if-start-2 : tie.Need-part-read-if-start-2 Inv-loop μ-loop
-part-read-if-start-2 c = security-lies (c .before .before) .0
+part-read-if-start-2 c = security-lies (cut (c .before .before)) .0
 
 part-read-if-end-2 : tie.Need-part-read-if-end-2 Inv-loop μ-loop
-part-read-if-end-2 c = security-lies (c .before .before) .1
+part-read-if-end-2 c = security-lies (cut (c .before .before)) .1
 
 read-if-requires : tie.Need-read-if-requires Inv-loop μ-loop
 read-if-requires c κs = search needs
@@ -136,24 +113,23 @@ loop-less c = omega arith
 
 loop-again : tie.Need-loop-again Inv-loop μ-loop
 loop-again c =
-    let cut = c .before .before .before .before .before .before in
-    let l = head cut .loop in
-    let a = outside cut .args in
+    let at = c .before .before .before .before .before .before in
+    let l = head at .loop in
+    let a = outside at .args in
     let q = c .before .before .read-if in
-    let array-end = share-ends _ _ _ _ _ (array-begins cut) (array-ends cut) in
-    let security-end = share-ends _ _ _ _ _ (security-begins cut) (security-ends cut) in (
+    let own = cut at in (
       (λ values.
           up-more _ _ _ (l .inv .0 values)
-          (shares-land (a .addressed) values (places cut) (l .i) (l .next) (l .said) (a .array .now) (a .security .now) (q .result) _ _ _ _ _ _ (c .heard .result)
-          (lent _ _ _ _ (a .array .now) (array-begins cut) array-end) (lent _ _ _ _ (a .security .now) (security-begins cut) security-end)
-          (kept (arrayStart (places cut) (l .i)) (figuresAt (places cut) (l .i) .array) (a .array .now) (lent _ _ _ _ (a .array .now) (array-begins cut) array-end))
-          (kept (securityStart (places cut) (l .i)) (figuresAt (places cut) (l .i) .security) (a .security .now) (lent _ _ _ _ (a .security .now) (security-begins cut) security-end))
-          (takes-read (a .addressed) values (places cut) (l .i) (l .next) (l .said) (a .array .now) (a .security .now) (a .nack) (outside cut .pre) (q .result) _ _ (rw (c .before .before .before .before .before .reaches .ensures) at (q .ensures)))
+          (shares-land (a .addressed) values (places at) (l .i) (l .next) (l .said) (a .array .now) (a .security .now) (q .result) _ _ _ _ _ _ (c .heard .result)
+          (lent _ _ _ _ (a .array .now) (own .array-begins) (array-end own)) (lent _ _ _ _ (a .security .now) (own .security-begins) (security-end own))
+          (kept (arrayStart (places at) (l .i)) (figuresAt (places at) (l .i) .array) (a .array .now) (lent _ _ _ _ (a .array .now) (own .array-begins) (array-end own)))
+          (kept (securityStart (places at) (l .i)) (figuresAt (places at) (l .i) .security) (a .security .now) (lent _ _ _ _ (a .security .now) (own .security-begins) (security-end own)))
+          (takes-read (a .addressed) values (places at) (l .i) (l .next) (l .said) (a .array .now) (a .security .now) (a .nack) (outside at .pre) (q .result) _ _ (rw (c .before .before .before .before .before .reaches .ensures) at (q .ensures)))
           (c .heard .ensures))),
-      next-begins (λ (k : ℕ). figuresAt (places cut) k .array) (l .i) _ _ _ _ (array-begins cut) (array-ends cut) refl,
-      next-begins (λ (k : ℕ). figuresAt (places cut) k .security) (l .i) _ _ _ _ (security-begins cut) (security-ends cut) refl,
-      omega (arith, array-ends cut, least-most (l .at + figuresAt (places cut) (l .i) .array) (length (a .array .now)), sound-of (placeAt (places cut) (l .i) .part) .array-most),
-      omega (arith, security-ends cut, least-most (l .from + figuresAt (places cut) (l .i) .security) (length (a .security .now)), sound-of (placeAt (places cut) (l .i) .part) .security-most),
+      array-next own _ refl,
+      security-next own _ refl,
+      array-small own (l .inv .3),
+      security-small own (l .inv .4),
       (λ k past. getD-set-other (l .next) (l .i) k (q .result .chip) noChip (λ (is : k ≡ l .i). absurd (omega arith)) ∙ l .inv .5 k (omega arith)),
       omega arith,
     )

@@ -1,24 +1,10 @@
--- The event where the verdict passed, and the refusal that it carries where not.
-use mathlib.Core.Path.{_∙_, ap, sym}
-use Rattle.refusal.specs.declared.Verdict.{Verdict}
-use Rattle.bus.specs.Step.{stepGiven}
+-- What `given` leaves, put together again.
 use borrow.Author.Needs.{needs}
 use Rattle.bus.proofs.Bus.step_given.Statement.{statement}
 use Rattle.bus.proofs.Bus.step_given.Tie as tie
 
-enum-known-entry : tie.Need-enum-known-entry
-enum-known-entry c = search needs
-
-enum-told : tie.Need-enum-told
-enum-told c = search needs
-
-event-requires : tie.Need-event-requires
-event-requires c κs = search needs
-
-returns : tie.Need-returns
-returns c =
-    let a = c .before .before .before .before .before .args in
-    ap (λ (v : Verdict). stepGiven v (a .self) (a .array .now) (a .security .now) (a .word)) (sym (c .before .entry .given .1))
+given-requires : tie.Need-given-requires
+given-requires c κs = search needs
 
 same-length : tie.Need-same-length
 same-length c = search needs
@@ -26,21 +12,8 @@ same-length c = search needs
 same-length-2 : tie.Need-same-length-2
 same-length-2 c = search needs
 
-returns-2 : tie.Need-returns-2
-returns-2 c =
-    let e = c .before .before .before .before in
-    let told = e .before .before .before in
-    let a = told .before .before .before .before .args in
-    e .event .ensures ∙ ap (λ (v : Verdict). stepGiven v (a .self) (a .array .now) (a .security .now) (a .word)) (sym (told .enum-told .given .1))
+returns : tie.Need-returns
+returns c = c .before .before .before .before .before .given .ensures
 
 pub step-given-spec : {M : Type 1} → statement M
-step-given-spec =
-    tie.close
-    (tie.spec
-    enum-known-entry
-    enum-told
-    event-requires
-    returns
-    same-length
-    same-length-2
-    returns-2)
+step-given-spec = tie.close (tie.spec given-requires same-length same-length-2 returns)

@@ -436,6 +436,9 @@ enum kind {
 
 enum { HOST_ACK = 0, HOST_NACK = 1 };
 
+/* To a byte that is sent. */
+enum reply { UNANSWERED = 0, ACKNOWLEDGED = 1, OCCUPIED = 2 /* request E8 */ };
+
 enum status {
     DONE = 0,
     BAD_COUNT = 1,
@@ -451,6 +454,7 @@ enum status {
 
 struct bus {
     unsigned count;
+    bool started; /* a Start is remembered: a byte sent now is an address byte (request E8) */
     struct chip chips[MOST_CHIPS];
 };
 
@@ -477,13 +481,26 @@ static bool any_taking(const struct bus *bus)
     return 0;
 }
 
-/* Tells whether any chip acknowledges. */
-static bool bus_take(struct bus *bus, byte b)
+/* Request E8: whether a 1010 or 1011 byte names a chip that is busy now. */
+static bool any_occupied(const struct bus *bus, byte b)
+{
+    for (unsigned k = 0; k < bus->count; k++) {
+        const struct chip *chip = &bus->chips[k];
+        if (chip->phase == BUSY && (is_named(chip, CODE_ARRAY, b) || is_named(chip, CODE_REGISTER, b)))
+            return 1;
+    }
+    return 0;
+}
+
+/* Every chip hears the byte. Request E8: only an address byte gets 02, and an acknowledge is heard over it. */
+static enum reply bus_take(struct bus *bus, byte b)
 {
     bool acknowledged = 0;
     for (unsigned k = 0; k < bus->count; k++)
         acknowledged |= chip_take(&bus->chips[k], b);
-    return acknowledged;
+    if (acknowledged)
+        return ACKNOWLEDGED;
+    return bus->started && any_occupied(bus, b) ? OCCUPIED : UNANSWERED;
 }
 
 /* At most one chip is sending. A NACK ends it [Read]. */
@@ -564,11 +581,20 @@ static byte play_event(struct bus *bus, unsigned kind, unsigned value)
     }
 }
 
+/* Request E8: a Start is remembered up to the next byte sent or read, Stop or power up. */
+static bool keeps_start(unsigned kind)
+{
+    return kind >= WP_LOW && kind <= CYCLE_OVER;
+}
+
 static struct answer step(struct bus *bus, unsigned kind, unsigned value)
 {
     struct answer answer = {refusal(bus, kind, value), 0};
-    if (answer.status == DONE)
+    if (answer.status == DONE) {
         answer.reply = play_event(bus, kind, value);
+        if (!keeps_start(kind))
+            bus->started = kind == START;
+    }
     return answer;
 }
 

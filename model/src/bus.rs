@@ -25,6 +25,11 @@ pub const BAD_VALUE: u8 = 7;
 pub const WRONG_DIRECTION: u8 = 8;
 pub const NOT_BUSY: u8 = 12;
 
+/// Replies to a byte sent; 02 is request E8's.
+pub const UNANSWERED: u8 = 0;
+pub const ACKNOWLEDGED: u8 = 1;
+pub const OCCUPIED: u8 = 2;
+
 /// An event as the transcript writes it.
 #[derive(Debug, Clone, Copy, PartialEq, Eq)]
 pub struct Event {
@@ -43,6 +48,8 @@ pub struct Answer {
 #[derive(Debug)]
 pub struct Bus {
     chips: Vec<Chip>,
+    /// A Start is remembered, even when every chip is busy: a byte sent now is an address byte (request E8).
+    started: bool,
 }
 
 impl Bus {
@@ -51,7 +58,7 @@ impl Bus {
         let parts = board::check(board)?;
         let numbered = (0..).zip(parts.into_iter().zip(board));
         let chips = numbered.map(|(number, (part, at))| Chip::fresh(part, at.strap, number)).collect();
-        Ok(Bus { chips })
+        Ok(Bus { chips, started: false })
     }
 
     /// The chips, in order.
@@ -69,12 +76,19 @@ impl Bus {
         hex::save(self.chips[chip].array())
     }
 
-    /// Plays one event.
+    /// Plays one event. Only one that is done touches the Start that is remembered (request E8).
     pub fn step(&mut self, event: Event) -> Answer {
-        match self.refusal(event) {
-            DONE => Answer { status: DONE, reply: self.play(event) },
-            status => Answer { status, reply: 0 },
+        let status = self.refusal(event);
+        if status != DONE {
+            return Answer { status, reply: 0 };
         }
+        let reply = self.play(event);
+        self.started = match event.kind {
+            START => true,
+            WP_LOW | WP_HIGH | CYCLE_OVER => self.started,
+            _ => false,
+        };
+        Answer { status, reply }
     }
 
     /// The number with which the event is refused: 6, 7, 12, 8 in this order, or DONE.
@@ -90,7 +104,7 @@ impl Bus {
         if !allowed {
             return BAD_VALUE;
         }
-        if kind == CYCLE_OVER && self.chips[named].phase() != Phase::Busy {
+        if kind == CYCLE_OVER && !self.chips[named].is_busy() {
             return NOT_BUSY; // request E2: the chip named decides, whatever the others do
         }
         let against = match kind {
@@ -110,10 +124,7 @@ impl Bus {
         match kind {
             START => self.chips.iter_mut().for_each(Chip::start),
             STOP => self.chips.iter_mut().for_each(Chip::stop),
-            SEND => {
-                // Every chip hears the byte, whoever acknowledges.
-                return self.chips.iter_mut().fold(0, |reply, chip| reply | u8::from(chip.take(value)));
-            }
+            SEND => return self.send(value),
             READ => {
                 let mut sent = self.chips.iter_mut().filter_map(|chip| chip.send(value == NACK));
                 return sent.next().unwrap_or(NOTHING);
@@ -123,5 +134,18 @@ impl Bus {
             _ => self.chips.iter_mut().for_each(Chip::power_up),
         }
         0
+    }
+
+    /// The reply to a byte sent. An address byte that names a busy chip gets 02 (request E8). An acknowledge would be
+    /// heard over it, but no two chips match one address byte.
+    fn send(&mut self, byte: u8) -> u8 {
+        let occupied = self.started && self.chips.iter().any(|chip| chip.is_busy() && chip.is_named(byte));
+        // Every chip hears the byte, whoever acknowledges.
+        let acknowledged = self.chips.iter_mut().fold(false, |heard, chip| heard | chip.take(byte));
+        match (acknowledged, occupied) {
+            (true, _) => ACKNOWLEDGED,
+            (false, true) => OCCUPIED,
+            (false, false) => UNANSWERED,
+        }
     }
 }

@@ -1,10 +1,11 @@
 //! Counts what happens in runs, to see that what matters happens often.
 
-use crate::bus::{Bus, DONE, NOT_BUSY, READ, SEND, STOP};
+use crate::bus::{Bus, ACKNOWLEDGED, DONE, NOT_BUSY, OCCUPIED, READ, SEND, STOP};
 use crate::chip::{Phase, Sends, Takes, Target, NOTHING};
-use crate::generate;
+use crate::generate::{self, Run};
 use crate::images::{self, ImageRun};
 use crate::program::Told;
+use crate::starts;
 use crate::transcript;
 use std::collections::BTreeMap;
 
@@ -20,6 +21,7 @@ pub fn census(runs: u64) {
     }
     let mut tally = Tally::default();
     for seed in 0..runs {
+        tally.watch(&generate::run(seed));
         let run = images::run(seed);
         tally.add(&run, &images::outcome(&run.run).told);
     }
@@ -30,13 +32,22 @@ pub fn census(runs: u64) {
     }
 }
 
-/// How often each thing came in runs with images, by groups.
+/// The group of what comes after a Start.
+pub const STARTS: &str = "starts";
+
+/// How often each thing came, by groups: one of transcripts, the others of runs with images.
 #[derive(Default)]
 pub struct Tally(BTreeMap<&'static str, BTreeMap<String, u64>>);
 
 impl Tally {
     fn count(&mut self, group: &'static str, what: impl ToString) {
         *self.0.entry(group).or_default().entry(what.to_string()).or_default() += 1;
+    }
+
+    /// Counts what the bytes of a transcript show of request E8; what never comes has its 0.
+    pub fn watch(&mut self, run: &Run) {
+        let counts = self.0.entry(STARTS).or_default();
+        starts::watch(run, |what, is_seen| *counts.entry(what.to_string()).or_default() += u64::from(is_seen));
     }
 
     /// Counts the texts of a run up to the one that is refused; those behind it are never read.
@@ -113,8 +124,9 @@ fn count_run(seed: u64, counts: &mut BTreeMap<String, u64>) {
             continue;
         }
         let came = match event.kind {
-            SEND if answer.reply == 0 => " (no acknowledge)",
-            SEND => " (acknowledge)",
+            SEND if answer.reply == ACKNOWLEDGED => " (acknowledge)",
+            SEND if answer.reply == OCCUPIED => " (busy)",
+            SEND => " (no acknowledge)",
             READ if answer.reply == NOTHING => " (FF)",
             READ => " (not FF)",
             _ => "",
@@ -152,5 +164,23 @@ fn doing(phase: Phase) -> &'static str {
         Phase::Sends(Sends::Configuration { .. }) => "sends the configuration",
         Phase::Sends(Sends::Id { .. }) => "sends the ID",
         Phase::Sends(Sends::Nothing) => "sends nothing",
+    }
+}
+
+#[cfg(test)]
+mod tests {
+    use super::*;
+
+    const SEEDS: u64 = 30;
+    /// Each thing that comes after a Start comes at least so often in these runs.
+    const LEAST: u64 = 5;
+
+    #[test]
+    fn what_request_e8_tells_apart_comes_often() {
+        let mut tally = Tally::default();
+        (0..SEEDS).for_each(|seed| tally.watch(&generate::run(seed)));
+        for (what, count) in &tally.0[STARTS] {
+            assert!(*count >= LEAST, "{what}: {count}");
+        }
     }
 }

@@ -145,6 +145,10 @@ impl Chip {
         self.phase
     }
 
+    pub fn is_busy(&self) -> bool {
+        self.phase == Phase::Busy
+    }
+
     /// The array, from outside the line (request E1).
     pub fn array(&self) -> &[u8] {
         &self.array
@@ -156,7 +160,7 @@ impl Chip {
 
     /// Paper, Start.
     pub fn start(&mut self) {
-        if self.phase != Phase::Busy {
+        if !self.is_busy() {
             self.load.clear();
             self.phase = Phase::Takes(Takes::Address);
         }
@@ -182,6 +186,11 @@ impl Chip {
     fn named_by(&self, byte: u8, device_type: u8) -> Option<u8> {
         let bits = (byte >> BITS_SHIFT) & BITS_MASK;
         (byte >> TYPE_SHIFT == device_type && self.part.answers(self.strap, bits)).then_some(bits)
+    }
+
+    /// Whether a 1010 or 1011 byte names this chip, whatever its read bit.
+    pub fn is_named(&self, byte: u8) -> bool {
+        [ARRAY_TYPE, REGISTER_TYPE].into_iter().any(|device_type| self.named_by(byte, device_type).is_some())
     }
 
     /// Paper, Address byte and Device ID. None: no match, standby.
@@ -296,7 +305,7 @@ impl Chip {
 
     /// Paper, Stop: what was loaded is stored, where it may be, and the chip is busy then.
     pub fn stop(&mut self) {
-        if self.phase == Phase::Busy {
+        if self.is_busy() {
             return;
         }
         let cycle = match self.phase {

@@ -1,6 +1,6 @@
 //! Plays runs to another bench, and compares its answers, what it tells and the files it leaves with the model's.
 
-use crate::census::Tally;
+use crate::census::{Tally, STARTS};
 use crate::generate::{self, Run};
 use crate::images::{self, Outcome};
 use crate::program::{Folder, Told};
@@ -99,7 +99,7 @@ pub fn compare(bench: &str, runs: u64, first_seed: u64) -> (u64, u64) {
         }
     }
     println!("{runs} transcripts, and {} runs with images", runs * IMAGE_RUNS);
-    ["boards", "texts", "shapes", "faults"].iter().for_each(|group| tally.print(group));
+    [STARTS, "boards", "texts", "shapes", "faults"].iter().for_each(|group| tally.print(group));
     (passed, runs * (1 + IMAGE_RUNS) - passed)
 }
 
@@ -109,6 +109,7 @@ fn made(sort: Sort, tally: &mut Tally) -> (Run, Outcome) {
         Sort::Transcript(seed) => {
             let run = generate::run(seed);
             let expected = images::outcome(&run);
+            tally.watch(&run);
             (run, expected)
         }
         Sort::Images(seed) => {

@@ -159,7 +159,7 @@ fn no_digit(rng: &mut Rng) -> u8 {
 mod tests {
     use super::*;
     use crate::bus::{Bus, CYCLE_OVER, DONE, NOT_BUSY};
-    use crate::chip::Phase;
+    use crate::chip::Chip;
     use crate::transcript::events;
 
     const SEEDS: u64 = 300;
@@ -197,7 +197,7 @@ mod tests {
         for run in (0..PLAYED).map(run) {
             let Ok(mut bus) = Bus::set_up(&run.asked().board) else { continue };
             for event in events(&run.transcript) {
-                let busy = bus.chips().iter().any(|chip| chip.phase() == Phase::Busy);
+                let busy = bus.chips().iter().any(Chip::is_busy);
                 let status = bus.step(event).status;
                 done += usize::from(event.kind == CYCLE_OVER && status == DONE);
                 refused += usize::from(status == NOT_BUSY);

@@ -12,6 +12,7 @@ mod part;
 mod program;
 mod rng;
 mod script;
+mod starts;
 mod texts;
 mod transcript;
 mod turns;

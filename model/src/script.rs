@@ -20,6 +20,7 @@ enum Kind {
     Lock,
     Nameless,
     DeviceId,
+    BusyLine,
     Stranger,
     WriteProtect,
     CycleOver,
@@ -27,7 +28,7 @@ enum Kind {
     Noise,
 }
 
-const KINDS: [(usize, Kind); 16] = [
+const KINDS: [(usize, Kind); 17] = [
     (22, Kind::ArrayWrite),
     (14, Kind::RandomRead),
     (6, Kind::CurrentRead),
@@ -39,6 +40,7 @@ const KINDS: [(usize, Kind); 16] = [
     (4, Kind::Lock),
     (3, Kind::Nameless),
     (7, Kind::DeviceId),
+    (3, Kind::BusyLine),
     (2, Kind::Stranger),
     (8, Kind::WriteProtect),
     (4, Kind::CycleOver),
@@ -146,8 +148,10 @@ impl Script<'_> {
         let mut turn = self.turn(kind, chip);
         self.break_up(&mut turn);
         self.events.append(&mut turn);
-        if matches!(kind, Kind::ArrayWrite | Kind::SecurityWrite | Kind::ConfigurationWrite | Kind::Lock) {
-            self.end_cycle(chip);
+        match kind {
+            Kind::ArrayWrite | Kind::SecurityWrite | Kind::ConfigurationWrite | Kind::Lock => self.end_cycle(chip),
+            Kind::BusyLine => (0..self.seats.len()).for_each(|chip| self.end_cycle(chip)),
+            _ => {}
         }
     }
 
@@ -165,6 +169,7 @@ impl Script<'_> {
             Kind::Lock => self.lock(chip),
             Kind::Nameless => self.nameless(chip),
             Kind::DeviceId => self.device_id(chip),
+            Kind::BusyLine => self.busy_line(),
             Kind::Stranger => self.stranger(),
             Kind::WriteProtect => vec![self.write_protect(chip)],
             Kind::CycleOver => vec![event(CYCLE_OVER, chip as u8)],

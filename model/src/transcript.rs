@@ -79,6 +79,7 @@ pub fn events(transcript: &[u8]) -> impl Iterator<Item = Event> + '_ {
 
 #[cfg(test)]
 mod tests {
+    use super::EVENT_DIGITS;
     use crate::program::{self, Folder};
     use crate::words;
 
@@ -211,7 +212,7 @@ mod tests {
             let poll = format!("0100 03{address:02X} 0200");
             let came = answers("", &lines(&format!("{write} 070{wrong} {poll} 070{busy} {poll} 070{busy}")));
             let expected = format!(
-                "070{wrong}0C00 01000000 03{address:02X}0000 02000000 \
+                "070{wrong}0C00 01000000 03{address:02X}0002 02000000 \
                  070{busy}0000 01000000 03{address:02X}0001 02000000 070{busy}0C00"
             );
             assert_eq!(came[6..], expected.split_whitespace().collect::<Vec<_>>());
@@ -241,6 +242,78 @@ mod tests {
         assert_eq!(refused.len(), before.lines().count());
         assert_eq!(rest[rest.len() - 4..], ["04000011", "04000022", "04010033", "02000000"]);
         assert_eq!(rest, answers("2:0", &(before + &read_back)));
+    }
+
+    /// Status and reply of the last event.
+    fn last_answer(words: &str, events: &str) -> String {
+        answers(words, &lines(events)).pop().expect("an answer").split_off(EVENT_DIGITS)
+    }
+
+    /// Makes the chip at strap 0 busy.
+    const WRITE: &str = "0100 03A0 0300*2 03A5 0200";
+    /// Makes the 24CS32 at strap 1 busy.
+    const WRITE_NEXT: &str = "0100 03A2 0300*2 03A5 0200";
+
+    #[test]
+    fn the_address_byte_of_a_busy_chip_says_so() {
+        for (words, bytes, reply) in [
+            ("2:0", "A0 A1 B0 B1", "0002"),
+            ("2:0", "A2 B3 C0 90 08 0F F8 F9", "0000"),
+            ("1:0", "A0 A1 A2 A3 B0 B1 B2 B3", "0002"),
+            ("1:0", "A4 B5", "0000"),
+            ("2:0 2:1", "A0 B1", "0002"),
+            ("2:0 2:1", "A2 B3 F8", "0001"),
+            ("2:0 2:1", "A4 F9", "0000"),
+        ] {
+            for byte in bytes.split_whitespace() {
+                assert_eq!(last_answer(words, &format!("{WRITE} 0100 03{byte}")), reply, "{words}: {byte}");
+            }
+        }
+    }
+
+    #[test]
+    fn only_the_first_byte_after_a_start_says_busy() {
+        for events in ["03A0", "0100 03A0*2", "0100 03A2 03A0", "0100 03F8 03A0", "0100 03F9 03A0", "0100 0308 03A0"] {
+            assert_eq!(last_answer("2:0", &format!("{WRITE} {events}")), "0000", "{events}");
+        }
+        // Chip 1 hears the busy chip's byte: after F8h, and as a word-address byte.
+        assert_eq!(last_answer("2:0 2:1", &format!("{WRITE} 0100 03F8 03A0")), "0000");
+        assert_eq!(last_answer("2:0 2:1", &format!("{WRITE} 0100 03A2 03A0")), "0001");
+    }
+
+    #[test]
+    fn what_is_done_forgets_the_start_and_what_is_refused_keeps_it() {
+        for (between, reply) in [
+            ("0400", "0000"),
+            ("0401", "0000"),
+            ("0200", "0000"),
+            ("0701 0400", "0000"),
+            ("0100", "0002"),
+            ("0500 0600 0501 0601", "0002"),
+            ("0701", "0002"),
+            ("0701 0701", "0002"),
+            ("0402 0502 0702 0101 0201 0801 0000 0900", "0002"),
+        ] {
+            let events = format!("{WRITE} {WRITE_NEXT} 0100 {between} 03A1");
+            assert_eq!(last_answer("2:0 2:1", &events), reply, "{between}");
+        }
+        // Chip 1 awaits an address byte, so that a read is refused.
+        assert_eq!(last_answer("2:0 2:1", &format!("{WRITE} 0100 0400")), "0800");
+        assert_eq!(last_answer("2:0 2:1", &format!("{WRITE} 0100 0400 03B0")), "0002");
+    }
+
+    #[test]
+    fn a_chip_is_busy_at_the_byte_or_not_at_all() {
+        for (events, reply) in [
+            ("0100 0700 03A0", "0000"),
+            ("0100 0700 0401", "00FF"),
+            ("0100 0700 03A2", "0002"),
+            ("0100 0700 0100 03A0", "0001"),
+            ("0100 0800 03A0", "0000"),
+        ] {
+            let events = format!("{WRITE} {WRITE_NEXT} {events}");
+            assert_eq!(last_answer("2:0 2:1", &events), reply, "{events}");
+        }
     }
 
     #[test]

@@ -1,6 +1,7 @@
-//! The turns of one chip: writes, reads and commands as a host sends them, with addresses near the edges.
+//! The turns of one chip: writes, reads and commands as a host sends them, with addresses near the edges. And calls
+//! on a line of busy chips.
 
-use crate::bus::{Event, ACK, NACK, POWER_UP, READ, SEND, START, STOP};
+use crate::bus::{Event, ACK, CYCLE_OVER, NACK, POWER_UP, READ, SEND, START, STOP, WP_LOW};
 use crate::chip::{
     ARRAY_TYPE, BITS_SHIFT, CONFIGURATION_BYTES, CONFIGURATION_ROW, CONFIRM_LOCKED, CONFIRM_UNLOCKED, EWPM_BIT,
     ID_READ, ID_SELECT, LOCK_BIT, LOCK_ROW, LOCK_ROW_MASK, READ_BIT, REGISTER_ROW_MASK, REGISTER_TYPE, SECURITY_ROW,
@@ -21,6 +22,31 @@ enum IdStep {
 
 const ID_STEPS: [(usize, IdStep); 5] =
     [(20, IdStep::Select), (55, IdStep::Read), (15, IdStep::Other), (7, IdStep::Stop), (3, IdStep::PowerUp)];
+
+/// What comes between a Start and the byte after it on a line of busy chips (request E8).
+#[derive(Clone, Copy)]
+enum Between {
+    Nothing,
+    Read,
+    /// Of the chip that the byte names.
+    CycleOver,
+    Select,
+    Strays,
+}
+
+const BETWEEN: [(usize, Between); 5] = [
+    (25, Between::Nothing),
+    (30, Between::Read),
+    (10, Between::CycleOver),
+    (10, Between::Select),
+    (25, Between::Strays),
+];
+const MOST_STRAYS: usize = 2;
+/// A line of busy chips: how many Starts it sees, how often one of the chips is ready again before, and how often an
+/// address byte is followed by another.
+const MOST_CALLS: usize = 16;
+const ONE_READY_PERCENT: usize = 40;
+const SECOND_BYTE_PERCENT: usize = 30;
 
 /// Lengths: data bytes of a write, mostly and at times, and bytes of a read.
 const USUAL_DATA: usize = 6;
@@ -132,7 +158,14 @@ impl Script<'_> {
         let part = self.seats[chip].part;
         let anywhere = self.rng.below(part.security);
         let edge = self.rng.pick(&[0, part.read_only, part.read_only, part.security, anywhere]);
-        let [low, high, ..] = self.near(edge, part.security).to_le_bytes();
+        let place = self.near(edge, part.security);
+        self.security_word_at(chip, place)
+    }
+
+    /// Start, address byte and word address for a place in the security register.
+    fn security_word_at(&mut self, chip: usize, place: usize) -> Vec<Event> {
+        let part = self.seats[chip].part;
+        let [low, high, ..] = place.to_le_bytes();
         let [low_used, high_used, ..] = (part.security - 1).to_le_bytes();
         let first = SECURITY_ROW | high | self.rng.byte() & !(REGISTER_ROW_MASK | high_used);
         let second = low | self.rng.byte() & !low_used;
@@ -337,6 +370,57 @@ impl Script<'_> {
         let right = self.address_byte(chip, ARRAY_TYPE, read);
         let other = self.any_address(chip);
         turn.push(self.rng.pick(&[right, right, right, other]));
+        turn
+    }
+
+    /// Every chip is made busy, at times one is ready again, and then they are called (request E8).
+    pub fn busy_line(&mut self) -> Vec<Event> {
+        let chips = self.seats.len();
+        let mut turn: Vec<Event> = (0..chips).flat_map(|chip| self.two_writes(chip)).collect();
+        if self.rng.percent(ONE_READY_PERCENT) {
+            turn.push(event(CYCLE_OVER, self.rng.below(chips) as u8));
+        }
+        for _ in 0..self.rng.between(1, MOST_CALLS) {
+            let chip = self.rng.below(chips);
+            turn.append(&mut self.call(chip));
+        }
+        turn
+    }
+
+    /// A byte to the array and one to the ID page: where protection or a lock keeps one from starting a cycle, the
+    /// other mostly does. Where the first does, the second goes to a busy chip.
+    fn two_writes(&mut self, chip: usize) -> Vec<Event> {
+        let part = self.seats[chip].part;
+        let array_place = self.array_place(chip);
+        let array_word = self.array_word(chip, array_place);
+        let id_place = self.rng.between(part.read_only, part.security - 1);
+        let id_word = self.security_word_at(chip, id_place);
+        let mut turn = vec![event(WP_LOW, chip as u8)];
+        for word in [array_word, id_word] {
+            turn.extend(word);
+            turn.extend([send(self.rng.byte()), event(STOP, 0)]);
+        }
+        turn
+    }
+
+    /// A Start and a 1010 or 1011 byte of the chip; at times something comes between them, which forgets the Start or
+    /// does not, and at times one more such byte, which is no address byte.
+    fn call(&mut self, chip: usize) -> Vec<Event> {
+        let mut turn = vec![start()];
+        match self.rng.weighted(&BETWEEN) {
+            Between::Nothing => {}
+            Between::Read => turn.push(event(READ, self.rng.pick(&[ACK, NACK]))),
+            Between::CycleOver => turn.push(event(CYCLE_OVER, chip as u8)),
+            Between::Select => turn.push(send(ID_SELECT)),
+            Between::Strays => turn.extend((0..self.rng.between(1, MOST_STRAYS)).map(|_| self.stray())),
+        }
+        let bytes = 1 + usize::from(self.rng.percent(SECOND_BYTE_PERCENT));
+        for _ in 0..bytes {
+            let device_type = self.rng.pick(&[ARRAY_TYPE, REGISTER_TYPE]);
+            let read = self.rng.percent(HALF_PERCENT);
+            turn.push(self.address_byte(chip, device_type, read));
+        }
+        self.stop(&mut turn);
         turn
     }
 

@@ -1,15 +1,17 @@
--- What the byte after F8h comes to, whatever byte it is: the chip is chosen and acknowledges, or it goes to standby in silence.
+-- What the byte after F8h comes to, whatever byte it is: the chip is chosen and acknowledges, or it goes to standby in silence. And a byte that
+-- finds the chip busy: it stays, occupied or silent.
 use Prim.Native.Nat.{ℕ}
-use mathlib.Core.Bool.{true}
+use mathlib.Core.Bool.{Bool, true, _&&_}
+use Rattle.base.proofs.logic.Laws.{either}
 use Rattle.parts.specs.Part.{geometryOf}
 use Rattle.control.specs.declared.Control.{Control}
 use Rattle.control.specs.declared.Answered.{Answered}
 use Rattle.control.specs.declared.phase.Phase.the-variants.{Standby}
 use Rattle.control.specs.Control.{choosing}
-use Rattle.control.specs.Said.{acked, silent}
+use Rattle.control.specs.Said.{acked, silent, occupied, stays}
 use Rattle.addressing.specs.declared.Call.{Call}
 use Rattle.addressing.specs.declared.Call.the-variants.{ReadArray, WriteArray, ReadRegister, WriteRegister, HostF8, HostF9, Nobody}
-use Rattle.addressing.specs.Address.{callOf, takeChosen, takeChoice}
+use Rattle.addressing.specs.Address.{callOf, names, takeBusy, takeChosen, takeChoice}
 
 module _ (c : Control) (byte : ℕ) (P : Answered → Type 0) (picked : P (acked Standby (choosing true c))) (passed : P (silent Standby c)) where
   by-call : (call : Call) → P (takeChosen call c)
@@ -24,3 +26,7 @@ module _ (c : Control) (byte : ℕ) (P : Answered → Type 0) (picked : P (acked
   pub choice-either : P (takeChoice c byte)
   unfolding takeChoice
   choice-either = by-call (callOf (geometryOf (c .part)) (c .strap) byte)
+
+pub busy-either : (c : Control) (first : Bool) (byte : ℕ) (P : Answered → Type 0) → P (occupied c) → P (stays c) → P (takeBusy c first byte)
+unfolding takeBusy
+busy-either c first byte P = either P (first && names byte c) (occupied c) (stays c)

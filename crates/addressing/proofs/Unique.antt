@@ -4,6 +4,8 @@ use Rattle.addressing.proofs.call_of.Kinds as call-of-kinds
 use Rattle.addressing.proofs.call_of.Reads as call-of-reads
 use Rattle.addressing.proofs.take_address.Kinds as take-address-kinds
 use Rattle.addressing.proofs.take_address.Reads as take-address-reads
+use Rattle.addressing.proofs.take_busy.Kinds as take-busy-kinds
+use Rattle.addressing.proofs.take_busy.Reads as take-busy-reads
 use Rattle.addressing.proofs.take_choice.Kinds as take-choice-kinds
 use Rattle.addressing.proofs.take_choice.Reads as take-choice-reads
 
@@ -12,6 +14,9 @@ call-of-unique κs args x y at-x at-y = same
 
 pub take-address-unique : Unique take-address-kinds.ps take-address-kinds.r take-address-reads.Post
 take-address-unique κs args x y at-x at-y = same
+
+pub take-busy-unique : Unique take-busy-kinds.ps take-busy-kinds.r take-busy-reads.Post
+take-busy-unique κs args x y at-x at-y = same
 
 pub take-choice-unique : Unique take-choice-kinds.ps take-choice-kinds.r take-choice-reads.Post
 take-choice-unique κs args x y at-x at-y = same

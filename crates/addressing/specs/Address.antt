@@ -1,6 +1,6 @@
 -- An address byte, and the byte after F8h (paper, "Address byte" and "Device ID"; sheets 3.3 and 11.0).
 use Prim.Native.Nat.{ℕ, _/_, _%_}
-use mathlib.Core.Bool.{true, false, cond}
+use mathlib.Core.Bool.{Bool, true, false, cond, _&&_}
 use lib.Dec.{eqb}
 use Rattle.parts.specs.declared.part.Geometry.{Geometry}
 use Rattle.parts.specs.Part.{geometryOf}
@@ -14,7 +14,7 @@ use Rattle.control.specs.declared.phase.Source.the-variants.{FromArray, FromSec
 use Rattle.control.specs.declared.phase.Shown.{Shown}
 use Rattle.control.specs.declared.phase.Shown.the-variants.{ShowsSecurity, ShowsConfiguration, ShowsNothing}
 use Rattle.control.specs.Control.{choosing}
-use Rattle.control.specs.Said.{acked, silent}
+use Rattle.control.specs.Said.{acked, silent, occupied, stays}
 use Rattle.addressing.specs.declared.Call.{Call}
 use Rattle.addressing.specs.declared.Call.the-variants.{ReadArray, WriteArray, ReadRegister, WriteRegister, HostF8, HostF9, Nobody}
 
@@ -51,6 +51,24 @@ takeCall Nobody c = silent Standby (choosing false c)
 
 unfoldable pub takeAddress : Control → ℕ → Answered
 takeAddress c byte = takeCall (callOf (geometryOf (c .part)) (c .strap) byte) c
+
+-- a 1010 or 1011 byte with a code of the chip names it
+abbrev pub isNamed : Call → Bool
+isNamed ReadArray = true
+isNamed (WriteArray a16) = true
+isNamed ReadRegister = true
+isNamed WriteRegister = true
+isNamed HostF8 = false
+isNamed HostF9 = false
+isNamed Nobody = false
+
+abbrev pub names : ℕ → Control → Bool
+names byte c = isNamed (callOf (geometryOf (c .part)) (c .strap) byte)
+
+-- a byte that finds the chip busy, which stays so: to an address byte, the first byte after a Start, that names it the chip is
+-- occupied (request E8)
+unfoldable pub takeBusy : Control → Bool → ℕ → Answered
+takeBusy c first byte = cond (first && names byte c) (occupied c) (stays c)
 
 -- the byte after F8h, read bit ignored: the chip whose 1010 address it is acknowledges, is chosen and takes nothing before the
 -- next Start; the others go to standby

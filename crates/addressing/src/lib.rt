@@ -1,4 +1,5 @@
 // An address byte, and the byte after F8h (paper, "Address byte" and "Device ID"; sheets 3.3 and 11.0).
+use base::logic::and;
 use control::Answered;
 use control::Control;
 use control::phase::Phase;
@@ -9,7 +10,7 @@ use parts::address::a16_of;
 use parts::address::answers;
 ghost use mathlib.Core.Path.{_≡_};
 ghost use Rattle.parts.specs.Part.{geometryOf};
-ghost use Rattle.addressing.specs.Address.{callOf, sourceOf, takeAddress, takeIdentify, takeChoice};
+ghost use Rattle.addressing.specs.Address.{callOf, sourceOf, takeAddress, takeIdentify, isNamed, takeBusy, takeChoice};
 
 // The device type identifiers, 1010 for the array and 1011 for the registers, and the two host codes of the Device ID.
 const ARRAY: u8 = 0b1010;
@@ -97,6 +98,32 @@ pub fn take_address(c: Control, byte: u8) -> Answered
         Call::HostF9 => take_identify(c),
         Call::Nobody => dropped.silent(Phase::Standby),
     }
+}
+
+// A 1010 or 1011 byte with a code of the chip names it.
+fn is_named(call: Call) -> bool
+    ensures { λ r. ⌜ r ≡ isNamed call ⌝ }
+{
+    match call {
+        Call::ReadArray => true,
+        Call::WriteArray(_) => true,
+        Call::ReadRegister => true,
+        Call::WriteRegister => true,
+        Call::HostF8 => false,
+        Call::HostF9 => false,
+        Call::Nobody => false,
+    }
+}
+
+// A byte that finds the chip busy: only an address byte that names it gets a word (request E8).
+pub fn take_busy(c: Control, first: bool, byte: u8) -> Answered
+    ensures { λ r. ⌜ r ≡ takeBusy c first byte ⌝ }
+{
+    let call = call_of(c.part, c.strap, byte);
+    if and(first, is_named(call)) {
+        return c.occupied();
+    }
+    c.stays()
 }
 
 // The byte after F8h chooses the chip whose 1010 address it is, for reading or writing.

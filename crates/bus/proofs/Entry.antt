@@ -30,7 +30,7 @@ passed Passed is = refl
 passed (Refused refusal) is = absurd (false≢true is)
 
 pub record Entered (bus : Bus) (array security : List ℕ) : Type 0 where
-  pub formed : wellFormed (bus .count) (bus .chips) ≡ true
+  pub formed : wellFormed (bus .count) (bus .started) (bus .chips) ≡ true
   pub chips-some : 1 ≤ bus .count
   pub chips-most : bus .count ≤ 4
   pub all-placed : placed (bus .count) ≡ bus .count
@@ -38,7 +38,7 @@ pub record Entered (bus : Bus) (array security : List ℕ) : Type 0 where
   pub security-fits : length security ≡ securityStart (placesOf (bus .chips)) (placed (bus .count))
 
 -- a well-formed state passes set-up's count
-pub counted : (bus : Bus) → wellFormed (bus .count) (bus .chips) ≡ true → wrongCount (bus .count) ≡ false
+pub counted : (bus : Bus) → wellFormed (bus .count) (bus .started) (bus .chips) ≡ true → wrongCount (bus .count) ≡ false
 unfolding wellFormed boardVerdict
 counted bus formed =
     let board : firstOf (boardChecks (bus .count) (placesOf (bus .chips))) ≡ Passed = passed _ (and-left _ _ formed) in
@@ -47,7 +47,7 @@ counted bus formed =
 pub entered : (bus : Bus) (array security : List ℕ) → firstOf (entryChecks bus array security) ≡ Passed → Entered bus array security
 entered bus array security enters =
     let none = passed-exactly-when (entryChecks bus array security) .0 (ap statusOf enters) in
-    let formed : wellFormed (bus .count) (bus .chips) ≡ true = not-false _ (none .0) in
+    let formed : wellFormed (bus .count) (bus .started) (bus .chips) ≡ true = not-false _ (none .0) in
     let right : wrongCount (bus .count) ≡ false = counted bus formed in
     let lengths = or-none (not (eqb (length array) (arrayStart (placesOf (bus .chips)) (placed (bus .count))))) _ (none .1 .0) in
     record {

@@ -2,6 +2,7 @@
 -- places, each holds a value of the type `Chip`, and it has 256 values, each a byte.
 use Prim.Native.Nat.{ℕ, _<_, _^_}
 use native.Mathlib.Omega.{arith}
+use mathlib.Core.Bool.{Bool}
 use mathlib.Core.List.{List}
 use mathlib.Core.Path.{_≡_, _∙_, refl, sym}
 use lib.ListN.{length, length-map}
@@ -19,6 +20,7 @@ use Rattle.chip.proofs.Chip as chip-rows
 use Rattle.chip.proofs.Typed.{ChipTyped}
 use Rattle.lineup.specs.Chips.{noChip, chipAt}
 use Rattle.bus.specs.declared.Bus.{Bus}
+use Rattle.bus.specs.Step.{busWith}
 use Rattle.bus.proofs.Bus as buses
 
 -- some values of the machine are what it denotes
@@ -30,10 +32,10 @@ pub count-fits : {bus : Bus} → OfItsType bus → bus .count < 2 ^ 64
 count-fits typed = typed .is .1 .1 .0 .1
 
 pub has-four : {bus : Bus} → OfItsType bus → length (bus .chips) ≡ 4
-has-four {bus} typed = sym (length-map (bus .chips) _) ∙ typed .is .1 .1 .1 .0 .1 .0 .1
+has-four {bus} typed = sym (length-map (bus .chips) _) ∙ typed .is .1 .1 .1 .1 .0 .1 .0 .1
 
 pub every-typed : {bus : Bus} → OfItsType bus → Every ChipTyped (bus .chips)
-every-typed {bus} typed = each-every _ _ ChipTyped (λ c u is. record { value = u; is = is }) (bus .chips) _ (typed .is .1 .1 .1 .0 .1 .1)
+every-typed {bus} typed = each-every _ _ ChipTyped (λ c u is. record { value = u; is = is }) (bus .chips) _ (typed .is .1 .1 .1 .1 .0 .1 .1)
 
 -- 256 values, each a byte
 pub record ValuesTyped (values : List ℕ) : Type 0 where
@@ -42,18 +44,18 @@ pub record ValuesTyped (values : List ℕ) : Type 0 where
 
 pub values-typed : {bus : Bus} → OfItsType bus → ValuesTyped (bus .values)
 values-typed {bus} typed =
-    let is = typed .is .1 .1 .1 .1 .0 in
+    let is = typed .is .1 .1 .1 .1 .1 .0 in
     record { long = length-unmapped _ (bus .values) 256 (is .1 .0 .1); bytes = each-every _ _ FitsByte (λ n v byte. byte .1) (bus .values) _ (is .1 .1) }
 
 -- and nothing else is asked of it
-pub bus-typed : (count : ℕ) (chips : List Chip) (values : List ℕ) → count < 2 ^ 64 → length chips ≡ 4 → Every ChipTyped chips → ValuesTyped values
-    → OfItsType (record { count = count; chips = chips; values = values })
-bus-typed count chips values fits four typed held =
+pub bus-typed : (count : ℕ) (started : Bool) (chips : List Chip) (values : List ℕ) → count < 2 ^ 64 → length chips ≡ 4 → Every ChipTyped chips → ValuesTyped values
+    → OfItsType (busWith count started chips values)
+bus-typed count started chips values fits four typed held =
     let made = every-each (chip-rows.the-type .to) (Struct (shape chip-rows.the-type) .own) ChipTyped (λ c t. t .value) (λ c t. t .is) chips typed in
     let kept = every-each (λ (n : ℕ). n) (u8 .own) FitsByte (λ n fits. vint w8 n) (λ n fits. (refl, fits)) values (held .bytes) in
     record {
       values = _;
-      is = ((_, (_, (_, tt))), (refl, ((refl, fits), ((made .0, ((refl, length-map chips _ ∙ four), made .1)), ((kept .0, ((refl, length-map values _ ∙ held .long), kept .1)), tt)))));
+      is = ((_, (_, (_, (_, tt)))), (refl, ((refl, fits), (refl, ((made .0, ((refl, length-map chips _ ∙ four), made .1)), ((kept .0, ((refl, length-map values _ ∙ held .long), kept .1)), tt))))));
     }
 
 -- one of its chips

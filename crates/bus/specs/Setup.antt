@@ -1,6 +1,6 @@
 -- Setting up a bus (paper, "The two memories" and "Events and replies"): checks 1, 2, 3, 4, 5 in that order over all chips.
 use Prim.Native.Nat.{ℕ}
-use mathlib.Core.Bool.{Bool}
+use mathlib.Core.Bool.{Bool, false}
 use mathlib.Core.List.{List, [], _∷_, _++_}
 use lib.ListN.{length, replicate, set}
 use Rattle.base.specs.Fold.{upTo}
@@ -27,9 +27,9 @@ setUpChecks count places array security =
 abbrev pub emptyChip : Chip
 emptyChip = chip.fresh 0 0
 
--- the empty state, which is not well formed
+-- the empty state, which is not well formed; no Start is remembered
 abbrev pub empty : Bus
-empty = record { count = 0; chips = replicate 4 emptyChip; values = noValues }
+empty = record { count = 0; started = false; chips = replicate 4 emptyChip; values = noValues }
 
 -- a fresh chip at each place that the count fills
 abbrev pub freshChips : List Place → ℕ → List Chip
@@ -37,7 +37,7 @@ freshChips places n =
     upTo (λ (i : ℕ) (chips : List Chip). set chips i (chip.fresh (placeAt places i .part) (placeAt places i .strap))) n (replicate 4 emptyChip)
 
 abbrev pub freshBus : ℕ → List Place → Bus
-freshBus count places = record { count = count; chips = freshChips places (placed count); values = noValues }
+freshBus count places = record { count = count; started = false; chips = freshChips places (placed count); values = noValues }
 
 -- a refused set-up returns the empty state beside its refusal
 abbrev pub setUpBy : Verdict → ℕ → List Place → SetUp

@@ -5,6 +5,7 @@ use board::board_verdict;
 use board::placed;
 use board::shares::wrong_length;
 use chip::Chip;
+use chip::event::Event;
 use decode::Addressed;
 use decode::addressed_of;
 use decode::decode_verdict;
@@ -24,12 +25,14 @@ ghost use Rattle.refusal.specs.Checks.{firstOf};
 ghost use Rattle.board.specs.Place.{placed};
 ghost use Rattle.lineup.specs.Wellformed.{wellFormed};
 ghost use Rattle.bus.specs.Setup.{empty, setUpChecks, freshChips, setUp};
-ghost use Rattle.bus.specs.Step.{entryChecks, chipChecks, busWith, handed, eventChecks, played, event, stepGiven, step};
+ghost use Rattle.bus.specs.Step.{entryChecks, chipChecks, busWith, handed, eventChecks, remembers, played, event, stepGiven, step};
 ghost use mathlib.Core.List.{[]};
 ghost use Rattle.bus.specs.Run.{runUpTo, outcome, run};
 
+// `started`: a Start is remembered, so that the next byte sent is an address byte, whoever is busy (request E8).
 pub struct Bus {
     pub count: usize,
+    pub started: bool,
     pub chips: [Chip; PLACES],
     pub values: [u8; PAGE_MOST],
 }
@@ -56,6 +59,7 @@ impl Bus {
     {
         Bus {
             count: 0,
+            started: false,
             chips: [Chip::fresh(0, 0); PLACES],
             values: [0; PAGE_MOST],
         }
@@ -74,6 +78,7 @@ impl Bus {
             Verdict::Passed => SetUp {
                 bus: Bus {
                     count,
+                    started: false,
                     chips: fresh_chips(count, places),
                     values: [0; PAGE_MOST],
                 },
@@ -83,10 +88,10 @@ impl Bus {
     }
 
     pub fn well_formed(self) -> bool
-        ensures { λ r. ⌜ r ≡ wellFormed (self .count) (self .chips) ⌝ }
+        ensures { λ r. ⌜ r ≡ wellFormed (self .count) (self .started) (self .chips) ⌝ }
     {
         let chips = self.chips;
-        lineup::well_formed(self.count, chips)
+        lineup::well_formed(self.count, self.started, chips)
     }
 
     // Checks 10 and 5, which a step, a run and a page question begin with.
@@ -139,14 +144,25 @@ impl Bus {
         ensures { λ r. ⌜ (r, now (array .exit), now (security .exit)) ≡ stepGiven entry self (now (array .entry)) (now (security .entry)) word ⌝ }
     {
         let count = self.count;
+        let started = self.started;
         let chips = self.chips;
         let mut values = self.values;
-        let done = given(entry, count, chips, &mut values, array, security, word);
+        let done = given(
+            entry,
+            count,
+            started,
+            chips,
+            &mut values,
+            array,
+            security,
+            word,
+        );
         let next = done.chips;
         let answer = done.answer;
         Stepped {
             bus: Bus {
                 count,
+                started: done.started,
                 chips: next,
                 values,
             },
@@ -216,18 +232,34 @@ fn fresh_chips(count: usize, places: [Place; PLACES]) -> [Chip; PLACES]
 }
 
 // Checks 6, 7, 12 and 8.
-fn event_verdict(count: usize, chips: [Chip; PLACES], word: u16) -> Verdict
-    ensures { λ r. ⌜ r ≡ firstOf (eventChecks (busWith count chips []) word) ⌝ }
+fn event_verdict(count: usize, started: bool, chips: [Chip; PLACES], word: u16) -> Verdict
+    ensures { λ r. ⌜ r ≡ firstOf (eventChecks (busWith count started chips []) word) ⌝ }
 {
     let verdict = decode_verdict(count, word);
     match verdict {
         Verdict::Refused(refusal) => Verdict::Refused(refusal),
-        Verdict::Passed => line_verdict(addressed_of(word), count, chips),
+        Verdict::Passed => line_verdict(addressed_of(started, word), count, chips),
     }
 }
 
-// What an event leaves of the chips, and its answer. Values and stores are lent, so that they are not copied from function to function.
+// Whether a Start is remembered after an event that is done.
+fn remembers(event: Event, started: bool) -> bool
+    ensures { λ r. ⌜ r ≡ remembers event started ⌝ }
+{
+    match event {
+        Event::Start => true,
+        Event::Stop => false,
+        Event::Sent(_, _) => false,
+        Event::Read(_) => false,
+        Event::Wp(_) => started,
+        Event::CycleOver => started,
+        Event::PowerUp => false,
+    }
+}
+
+// What an event leaves, and its answer. Values and stores are lent, so that they are not copied from function to function.
 struct Done {
+    started: bool,
     chips: [Chip; PLACES],
     answer: Answer,
 }
@@ -235,40 +267,53 @@ struct Done {
 fn played(
     addressed: Addressed,
     count: usize,
+    started: bool,
     chips: [Chip; PLACES],
     values: &mut [u8; PAGE_MOST],
     array: &mut [u8],
     security: &mut [u8],
 ) -> Done
-    ensures { λ r. ⌜ (handed count r (now (values .exit)), now (array .exit), now (security .exit)) ≡ played addressed (busWith count chips (now (values .entry))) (now (array .entry)) (now (security .entry)) ⌝ }
+    ensures { λ r. ⌜ (handed count r (now (values .exit)), now (array .exit), now (security .exit)) ≡ played addressed (busWith count started chips (now (values .entry))) (now (array .entry)) (now (security .entry)) ⌝ }
 {
     let world = line::play(addressed, count, chips, values, array, security);
     let next = world.chips;
     let said = world.said;
+    let event = event_of(addressed);
     Done {
+        started: remembers(event, started),
         chips: next,
-        answer: Answer::Done(line_reply(event_of(addressed), said)),
+        answer: Answer::Done(line_reply(event, said)),
     }
 }
 
 // One event of a state that has passed 10 and 5.
 fn event(
     count: usize,
+    started: bool,
     chips: [Chip; PLACES],
     values: &mut [u8; PAGE_MOST],
     array: &mut [u8],
     security: &mut [u8],
     word: u16,
 ) -> Done
-    ensures { λ r. ⌜ (handed count r (now (values .exit)), now (array .exit), now (security .exit)) ≡ event (busWith count chips (now (values .entry))) (now (array .entry)) (now (security .entry)) word ⌝ }
+    ensures { λ r. ⌜ (handed count r (now (values .exit)), now (array .exit), now (security .exit)) ≡ event (busWith count started chips (now (values .entry))) (now (array .entry)) (now (security .entry)) word ⌝ }
 {
-    let verdict = event_verdict(count, chips, word);
+    let verdict = event_verdict(count, started, chips, word);
     match verdict {
         Verdict::Refused(refusal) => Done {
+            started,
             chips,
             answer: Answer::Refused(refusal),
         },
-        Verdict::Passed => played(addressed_of(word), count, chips, values, array, security),
+        Verdict::Passed => played(
+            addressed_of(started, word),
+            count,
+            started,
+            chips,
+            values,
+            array,
+            security,
+        ),
     }
 }
 
@@ -276,20 +321,22 @@ fn event(
 fn given(
     entry: Verdict,
     count: usize,
+    started: bool,
     chips: [Chip; PLACES],
     values: &mut [u8; PAGE_MOST],
     array: &mut [u8],
     security: &mut [u8],
     word: u16,
 ) -> Done
-    ensures { λ r. ⌜ (handed count r (now (values .exit)), now (array .exit), now (security .exit)) ≡ stepGiven entry (busWith count chips (now (values .entry))) (now (array .entry)) (now (security .entry)) word ⌝ }
+    ensures { λ r. ⌜ (handed count r (now (values .exit)), now (array .exit), now (security .exit)) ≡ stepGiven entry (busWith count started chips (now (values .entry))) (now (array .entry)) (now (security .entry)) word ⌝ }
 {
     match entry {
         Verdict::Refused(refusal) => Done {
+            started,
             chips,
             answer: Answer::Refused(refusal),
         },
-        Verdict::Passed => event(count, chips, values, array, security, word),
+        Verdict::Passed => event(count, started, chips, values, array, security, word),
     }
 }
 

@@ -12,7 +12,7 @@ use Rattle.chip.specs.Chip.{quiet, moved, meetsNothing, step, valuesAfte
 abbrev pub isStop : Event → Bool
 isStop Start = false
 isStop Stop = true
-isStop (Sent byte) = false
+isStop (Sent first byte) = false
 isStop (Read nack) = false
 isStop (Wp level) = false
 isStop CycleOver = false
@@ -21,7 +21,7 @@ isStop PowerUp = false
 abbrev pub isSent : Event → Bool
 isSent Start = false
 isSent Stop = false
-isSent (Sent byte) = true
+isSent (Sent first byte) = true
 isSent (Read nack) = false
 isSent (Wp level) = false
 isSent CycleOver = false
@@ -32,7 +32,7 @@ module _ (c : Chip) (values array security : List ℕ) where
   unfolding step
   only-stop-stores Start other = (refl, refl)
   only-stop-stores Stop other = absurd (false≢true (sym other))
-  only-stop-stores (Sent byte) other = (refl, refl)
+  only-stop-stores (Sent first byte) other = (refl, refl)
   only-stop-stores (Read nack) other = (refl, refl)
   only-stop-stores (Wp level) other = (refl, refl)
   only-stop-stores CycleOver other = (refl, refl)
@@ -43,7 +43,7 @@ module _ (c : Chip) (values array security : List ℕ) where
   unfolding step
   moves-alone Start alone = refl
   moves-alone Stop alone = absurd (false≢true alone)
-  moves-alone (Sent byte) alone = absurd (false≢true alone)
+  moves-alone (Sent first byte) alone = absurd (false≢true alone)
   moves-alone (Read nack) alone = absurd (false≢true alone)
   moves-alone (Wp level) alone = refl
   moves-alone CycleOver alone = refl
@@ -53,7 +53,7 @@ module _ (c : Chip) (values array security : List ℕ) where
   unfolding valuesAfter
   only-sent-loads Start other = refl
   only-sent-loads Stop other = refl
-  only-sent-loads (Sent byte) other = absurd (false≢true (sym other))
+  only-sent-loads (Sent first byte) other = absurd (false≢true (sym other))
   only-sent-loads (Read nack) other = refl
   only-sent-loads (Wp level) other = refl
   only-sent-loads CycleOver other = refl

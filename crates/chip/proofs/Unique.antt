@@ -31,7 +31,7 @@ fresh-unique κs args x y at-x at-y = same
 pub start-unique : Unique start-kinds.ps start-kinds.r start-reads.Post
 start-unique κs args x y at-x at-y = same
 
-pub take-unique : UniqueOutcome take-kinds.ps take-kinds.r (Stepped × List ℕ) (λ κs result at. (result, now (at .1 .1 .0))) take-reads.Post
+pub take-unique : UniqueOutcome take-kinds.ps take-kinds.r (Stepped × List ℕ) (λ κs result at. (result, now (at .1 .1 .1 .0))) take-reads.Post
 take-unique κs args x y at-x at-y = same
 
 pub read-unique : Unique read-kinds.ps read-kinds.r read-reads.Post

@@ -31,20 +31,20 @@ start c =
     cond (isBusy (c .control .phase)) c
     (record { control = control.inPhase AwaitsAddress (c .control); span = dropped (c .span) })
 
--- a byte sent by the host
-abbrev pub take : Chip → ℕ → Stepped
-take c byte =
+-- a byte sent by the host, the first after a Start or not
+abbrev pub take : Chip → Bool → ℕ → Stepped
+take c first byte =
     record {
-      chip = record { control = taking.take (c .control) byte .control; span = taking.spanAfter (c .span) (c .control) };
-      said = taking.take (c .control) byte .said;
+      chip = record { control = taking.take (c .control) first byte .control; span = taking.spanAfter (c .span) (c .control) };
+      said = taking.take (c .control) first byte .said;
     }
 
 -- and the values of the line then, since the byte may be loaded
 abbrev pub valuesTaken : Chip → ℕ → List ℕ → List ℕ
 valuesTaken c byte values = taking.valuesAfter (c .span) (c .control) byte values
 
-abbrev pub taken : Chip → ℕ → List ℕ → Stepped × List ℕ
-taken c byte values = (take c byte, valuesTaken c byte values)
+abbrev pub taken : Chip → Bool → ℕ → List ℕ → Stepped × List ℕ
+taken c first byte values = (take c first byte, valuesTaken c byte values)
 
 -- a byte read by the host
 abbrev pub read : Chip → List ℕ → List ℕ → Bool → Stepped
@@ -77,7 +77,7 @@ powerUp c = record { control = poweredUp (c .control); span = dropped (c .span) 
 abbrev pub moved : Chip → Event → Chip
 moved c Start = start c
 moved c Stop = c
-moved c (Sent byte) = c
+moved c (Sent first byte) = c
 moved c (Read nack) = c
 moved c (Wp level) = wp level c
 moved c CycleOver = cycleOver c
@@ -86,7 +86,7 @@ moved c PowerUp = powerUp c
 abbrev pub meetsNothing : Event → Bool
 meetsNothing Start = true
 meetsNothing Stop = false
-meetsNothing (Sent byte) = false
+meetsNothing (Sent first byte) = false
 meetsNothing (Read nack) = false
 meetsNothing (Wp level) = true
 meetsNothing CycleOver = true
@@ -97,7 +97,7 @@ unfoldable pub step : Chip → List ℕ → List ℕ → List ℕ → Event → 
 step c values array security Start = (quiet (start c), array, security)
 step c values array security Stop =
     (quiet (stop c values array security .0), stop c values array security .1, stop c values array security .2)
-step c values array security (Sent byte) = (take c byte, array, security)
+step c values array security (Sent first byte) = (take c first byte, array, security)
 step c values array security (Read nack) = (read c array security nack, array, security)
 step c values array security (Wp level) = (quiet (wp level c), array, security)
 step c values array security CycleOver = (quiet (cycleOver c), array, security)
@@ -107,7 +107,7 @@ step c values array security PowerUp = (quiet (powerUp c), array, security)
 unfoldable pub valuesAfter : Chip → Event → List ℕ → List ℕ
 valuesAfter c Start values = values
 valuesAfter c Stop values = values
-valuesAfter c (Sent byte) values = valuesTaken c byte values
+valuesAfter c (Sent first byte) values = valuesTaken c byte values
 valuesAfter c (Read nack) values = values
 valuesAfter c (Wp level) values = values
 valuesAfter c CycleOver values = values

@@ -2,8 +2,8 @@
 pub enum Event {
     Start,
     Stop,
-    // The host sends a byte.
-    Sent(u8),
+    // The host sends a byte; with true it is the first after a Start, an address byte.
+    Sent(bool, u8),
     // The host reads a byte, and with true does not acknowledge it.
     Read(bool),
     // WP low or high.

@@ -48,13 +48,13 @@ impl Chip {
         }
     }
 
-    // A byte sent by the host.
-    pub fn take(self, byte: u8, values: &mut [u8; PAGE_MOST]) -> Stepped
-        ensures { λ r. ⌜ (r, now (values .exit)) ≡ taken self byte (now (values .entry)) ⌝ }
+    // A byte sent by the host, the first after a Start or not.
+    pub fn take(self, first: bool, byte: u8, values: &mut [u8; PAGE_MOST]) -> Stepped
+        ensures { λ r. ⌜ (r, now (values .exit)) ≡ taken self first byte (now (values .entry)) ⌝ }
     {
         let control = self.control;
         let span = self.span;
-        let answered = taking::take(control, byte);
+        let answered = taking::take(control, first, byte);
         let next = answered.control;
         let said = answered.said;
         Stepped {
@@ -148,7 +148,7 @@ impl Chip {
         match event {
             Event::Start => self.start(),
             Event::Stop => self,
-            Event::Sent(_) => self,
+            Event::Sent(_, _) => self,
             Event::Read(_) => self,
             Event::Wp(level) => self.wp(level),
             Event::CycleOver => self.cycle_over(),

@@ -22,6 +22,8 @@ use Rattle.control.proofs.Control.acked.Kinds as acked-kinds
 use Rattle.control.proofs.Control.acked.Reads as acked-reads
 use Rattle.control.proofs.Control.silent.Kinds as silent-kinds
 use Rattle.control.proofs.Control.silent.Reads as silent-reads
+use Rattle.control.proofs.Control.occupied.Kinds as occupied-kinds
+use Rattle.control.proofs.Control.occupied.Reads as occupied-reads
 use Rattle.control.proofs.Control.stays.Kinds as stays-kinds
 use Rattle.control.proofs.Control.stays.Reads as stays-reads
 use Rattle.control.proofs.Control.standby_now.Kinds as standby-now-kinds
@@ -75,6 +77,9 @@ acked-unique κs args x y at-x at-y = same
 
 pub silent-unique : Unique silent-kinds.ps silent-kinds.r silent-reads.Post
 silent-unique κs args x y at-x at-y = same
+
+pub occupied-unique : Unique occupied-kinds.ps occupied-kinds.r occupied-reads.Post
+occupied-unique κs args x y at-x at-y = same
 
 pub stays-unique : Unique stays-kinds.ps stays-kinds.r stays-reads.Post
 stays-unique κs args x y at-x at-y = same

@@ -6,7 +6,7 @@ use crate::phase::Shown;
 ghost use mathlib.Core.Path.{_≡_};
 ghost use Rattle.control.specs.Control.{fresh, inPhase, showing, choosing, arraycounterAt, securitycounterAt, idlockedNow, configured, wpAt};
 ghost use Rattle.control.specs.Exchange.{standbyNow, busyNow, poweredUp};
-ghost use Rattle.control.specs.Said.{acked, silent, stays};
+ghost use Rattle.control.specs.Said.{acked, silent, occupied, stays};
 
 // Part and strap are raw numbers, since a malformed state may hold any. The counters are `array` and `security`.
 pub struct Control {
@@ -23,10 +23,11 @@ pub struct Control {
     pub phase: Phase,
 }
 
-// What a chip says to an event.
+// What a chip says to an event. `Occupied`: it is busy, and an address byte names it (request E8).
 pub enum Said {
     Nothing,
     Ack,
+    Occupied,
     Byte(u8),
 }
 
@@ -161,6 +162,16 @@ impl Control {
         Answered {
             control,
             said: Said::Nothing,
+        }
+    }
+
+    // An address byte that names the chip while it is busy.
+    pub fn occupied(self) -> Answered
+        ensures { λ r. ⌜ r ≡ occupied self ⌝ }
+    {
+        Answered {
+            control: self,
+            said: Said::Occupied,
         }
     }
 

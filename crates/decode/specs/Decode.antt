@@ -34,20 +34,20 @@ decodeChecks count word =
     (unknownKind (kindOf word), UnknownKind) ∷ (not (valueAllowed count (kindOf word) (valueOf word)), WrongValue) ∷ []
 
 -- | 01 Start | 02 Stop | 03 host sends a byte | 04 host reads one, and with 01 NACKs | 05, 06 WP low, high | 07 write cycle over |
--- 08 power up |, of kinds and values that are allowed
-abbrev pub addressedIn : ℕ → ℕ → Addressed
-addressedIn kind value =
+-- 08 power up |, of kinds and values that are allowed. A byte sent while a Start is remembered is the first after it (request E8)
+abbrev pub addressedIn : Bool → ℕ → ℕ → Addressed
+addressedIn started kind value =
     cond (eqb kind 1) (ToAll Start)
     (cond (eqb kind 2) (ToAll Stop)
-    (cond (eqb kind 3) (ToAll (Sent value))
+    (cond (eqb kind 3) (ToAll (Sent started value))
     (cond (eqb kind 4) (ToAll (Read (eqb value 1)))
     (cond (eqb kind 5) (ToOne value (Wp false))
     (cond (eqb kind 6) (ToOne value (Wp true))
     (cond (eqb kind 7) (ToOne value CycleOver)
     (ToAll PowerUp)))))))
 
-unfoldable pub addressedOf : ℕ → Addressed
-addressedOf word = addressedIn (kindOf word) (valueOf word)
+unfoldable pub addressedOf : Bool → ℕ → Addressed
+addressedOf started word = addressedIn started (kindOf word) (valueOf word)
 
 -- every event goes to every chip, but 05 to 07 to the chip named
 abbrev pub reaches : Addressed → ℕ → Bool

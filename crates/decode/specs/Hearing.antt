@@ -9,7 +9,7 @@ use Rattle.chip.specs.declared.event.Event.the-variants.{Start, Stop, Sent, Rea
 abbrev pub lacksCycle : Event → Phase → Bool
 lacksCycle Start phase = false
 lacksCycle Stop phase = false
-lacksCycle (Sent byte) phase = false
+lacksCycle (Sent first byte) phase = false
 lacksCycle (Read nack) phase = false
 lacksCycle (Wp level) phase = false
 lacksCycle CycleOver phase = not (isBusy phase)
@@ -19,7 +19,7 @@ lacksCycle PowerUp phase = false
 abbrev pub clashesWith : Event → Phase → Bool
 clashesWith Start phase = false
 clashesWith Stop phase = false
-clashesWith (Sent byte) phase = isSending phase
+clashesWith (Sent first byte) phase = isSending phase
 clashesWith (Read nack) phase = isTaking phase
 clashesWith (Wp level) phase = false
 clashesWith CycleOver phase = false

@@ -14,7 +14,7 @@ pub fn lacks_cycle(event: Event, phase: Phase) -> bool
     match event {
         Event::Start => false,
         Event::Stop => false,
-        Event::Sent(_) => false,
+        Event::Sent(_, _) => false,
         Event::Read(_) => false,
         Event::Wp(_) => false,
         Event::CycleOver => !is_busy(phase),
@@ -29,7 +29,7 @@ pub fn clashes_with(event: Event, phase: Phase) -> bool
     match event {
         Event::Start => false,
         Event::Stop => false,
-        Event::Sent(_) => is_sending(phase),
+        Event::Sent(_, _) => is_sending(phase),
         Event::Read(_) => is_taking(phase),
         Event::Wp(_) => false,
         Event::CycleOver => false,

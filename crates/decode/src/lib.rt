@@ -83,13 +83,14 @@ pub fn decode_verdict(count: usize, word: u16) -> Verdict
     Verdict::Passed
 }
 
-fn addressed_in(kind: u8, value: u8) -> Addressed
-    ensures { λ r. ⌜ r ≡ addressedIn kind value ⌝ }
+// A byte sent while a Start is remembered is the first after it (request E8).
+fn addressed_in(started: bool, kind: u8, value: u8) -> Addressed
+    ensures { λ r. ⌜ r ≡ addressedIn started kind value ⌝ }
 {
     match kind {
         START => Addressed::ToAll(Event::Start),
         STOP => Addressed::ToAll(Event::Stop),
-        SEND => Addressed::ToAll(Event::Sent(value)),
+        SEND => Addressed::ToAll(Event::Sent(started, value)),
         READ => Addressed::ToAll(Event::Read(value == NACK)),
         WP_LOW => Addressed::ToOne(value, Event::Wp(false)),
         WP_HIGH => Addressed::ToOne(value, Event::Wp(true)),
@@ -99,10 +100,10 @@ fn addressed_in(kind: u8, value: u8) -> Addressed
 }
 
 // What a word that passes them asks for.
-pub fn addressed_of(word: u16) -> Addressed
-    ensures { λ r. ⌜ r ≡ addressedOf word ⌝ }
+pub fn addressed_of(started: bool, word: u16) -> Addressed
+    ensures { λ r. ⌜ r ≡ addressedOf started word ⌝ }
 {
-    addressed_in(kind_of(word), value_of(word))
+    addressed_in(started, kind_of(word), value_of(word))
 }
 
 // Whether it is for chip i.

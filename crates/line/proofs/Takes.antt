@@ -178,14 +178,14 @@ module _ (addressed : Addressed) (values : List ℕ) (places : List Place) (i : 
       go false = refl
 
   -- a byte sent leaves the shares, and may be loaded
-  pub takes-byte : (byte : ℕ) → eventOf addressed ≡ Sent byte → (stepped : Stepped) (before after : List ℕ)
-      → (stepped, after) ≡ cond (reaches addressed i) (taken (chipAt chips i) byte before) (quiet (chipAt chips i), before)
+  pub takes-byte : (first : Bool) (byte : ℕ) → eventOf addressed ≡ Sent first byte → (stepped : Stepped) (before after : List ℕ)
+      → (stepped, after) ≡ cond (reaches addressed i) (taken (chipAt chips i) first byte before) (quiet (chipAt chips i), before)
       → ((stepped, arrayShare places i array, securityShare places i security) ≡ takesOn addressed values i (chipAt chips i) (arrayShare places i array) (securityShare places i security))
       × (after ≡ cond (reaches addressed i) (valuesAfter (chipAt chips i) (eventOf addressed) before) before)
   unfolding step valuesAfter
-  takes-byte byte is stepped before after = go (reaches addressed i)
+  takes-byte first byte is stepped before after = go (reaches addressed i)
     where
-      go : (reached : Bool) → (stepped, after) ≡ cond reached (taken c byte before) (quiet c, before)
+      go : (reached : Bool) → (stepped, after) ≡ cond reached (taken c first byte before) (quiet c, before)
           → ((stepped, a, s) ≡ cond reached (step c values a s (eventOf addressed)) (quiet c, a, s)) × (after ≡ cond reached (valuesAfter c (eventOf addressed) before) before)
       go true does = rw is (ap (λ (x : Stepped × List ℕ). (x .0, a, s)) does, ap (λ (x : Stepped × List ℕ). x .1) does)
       go false does = (ap (λ (x : Stepped × List ℕ). (x .0, a, s)) does, ap (λ (x : Stepped × List ℕ). x .1) does)

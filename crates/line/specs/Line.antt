@@ -1,7 +1,7 @@
 -- An event on the line: every chip that it reaches takes it on its own shares of the two stores, and the line's answer is gathered
 -- from all (paper, "Events and replies" and "The two memories").
 use Prim.Native.Nat.{ℕ, _+_}
-use mathlib.Core.Bool.{Bool, false, cond}
+use mathlib.Core.Bool.{Bool, false, cond, _&&_, _||_}
 use mathlib.Core.List.{List, [], _∷_}
 use mathlib.Core.Path.{_≡_}
 use lib.ListN.{set}
@@ -10,7 +10,9 @@ use Rattle.base.specs.Least.{least}
 use Rattle.base.specs.Store.{span, patched}
 use Rattle.parts.specs.declared.part.Geometry.{Geometry}
 use Rattle.control.specs.declared.Said.{Said}
-use Rattle.control.specs.declared.Said.the-variants.{Nothing, Ack, Byte}
+use Rattle.control.specs.declared.Said.the-variants.{Nothing, Ack, Occupied, Byte}
+use Rattle.control.specs.declared.phase.Phase.{Phase}
+use Rattle.control.specs.Phase.{isBusy, isTaking}
 use Rattle.control.specs.Said.{replyOf}
 use Rattle.chip.specs.declared.Chip.{Chip}
 use Rattle.chip.specs.declared.Stepped.{Stepped}
@@ -56,10 +58,22 @@ securityShare places i security = span (securityStart places i) (figuresAt place
 abbrev pub shareEnds : Geometry → ℕ → ℕ → ℕ → ℕ → Ends
 shareEnds g at from array security = record { array = least (at + g .array) array; security = least (from + g .security) security }
 
+-- a byte sent is heard by a chip that takes bytes, and the first one after a Start by a busy chip too (request E8)
+abbrev pub hears : Bool → Phase → Bool
+hears first phase = isTaking phase || (first && isBusy phase)
+
+-- that a chip is busy is heard where nothing was said before: an acknowledge is heard over it
+abbrev pub unlessSaid : Said → Said → Said
+unlessSaid Nothing said = said
+unlessSaid Ack said = Ack
+unlessSaid Occupied said = Occupied
+unlessSaid (Byte byte) said = Byte byte
+
 -- what the line carries when one chip and then another have spoken; a chip that says nothing leaves it
 abbrev pub heard : Said → Said → Said
 heard before Nothing = before
 heard before Ack = Ack
+heard before Occupied = unlessSaid before Occupied
 heard before (Byte byte) = Byte byte
 
 -- the chips and what they have said so far, beside the two stores
@@ -120,7 +134,7 @@ ReadsFrom addressed count chips array security played =
 abbrev pub unanswered : Event → ℕ
 unanswered Start = 0x00
 unanswered Stop = 0x00
-unanswered (Sent byte) = 0x00
+unanswered (Sent first byte) = 0x00
 unanswered (Read nack) = 0xFF
 unanswered (Wp level) = 0x00
 unanswered CycleOver = 0x00

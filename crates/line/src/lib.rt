@@ -9,6 +9,7 @@ use chip::Stepped;
 use chip::event::Event;
 use control::Said;
 use control::phase::Phase;
+use control::phase::is_busy;
 use control::phase::is_sending;
 use control::phase::is_taking;
 use decode::Addressed;
@@ -29,14 +30,16 @@ ghost use Prim.Native.Nat.{_≤_, _^_};
 ghost use Rattle.chip.specs.declared.event.Event.the-variants as Event;
 ghost use Rattle.chip.specs.Chip.{quiet, taken, read, stop, moved, meetsNothing};
 ghost use Rattle.decode.specs.Decode.{reaches, eventOf};
-ghost use Rattle.line.specs.Line.{notBusy, clash, lineChecks, heard, shareEnds, play, valuesAfter, playWith, LeavesStores, LeavesAll, ReadsFrom, unanswered, lineReply};
+ghost use Rattle.line.specs.Line.{notBusy, clash, lineChecks, hears, unlessSaid, heard, shareEnds, play, valuesAfter, playWith, LeavesStores, LeavesAll, ReadsFrom, unanswered, lineReply};
 
-// What the line carries when nobody speaks: to a byte read, and to every other event.
+// What the line carries when nobody speaks: to a byte read, and to every other event. Then the two words of a chip.
 const IDLE: u8 = 0xFF;
 
 const SILENCE: u8 = 0x00;
 
 const ACKNOWLEDGE: u8 = 0x01;
+
+const OCCUPIED: u8 = 0x02;
 
 pub struct Played {
     pub chips: [Chip; PLACES],
@@ -92,12 +95,25 @@ pub fn line_verdict(addressed: Addressed, count: usize, chips: [Chip; PLACES]) -
     Verdict::Passed
 }
 
+// An acknowledge is heard over a chip that says it is busy.
+fn unless_said(before: Said, said: Said) -> Said
+    ensures { λ r. ⌜ r ≡ unlessSaid before said ⌝ }
+{
+    match before {
+        Said::Nothing => said,
+        Said::Ack => Said::Ack,
+        Said::Occupied => Said::Occupied,
+        Said::Byte(byte) => Said::Byte(byte),
+    }
+}
+
 fn heard(before: Said, said: Said) -> Said
     ensures { λ r. ⌜ r ≡ heard before said ⌝ }
 {
     match said {
         Said::Nothing => before,
         Said::Ack => Said::Ack,
+        Said::Occupied => unless_said(before, Said::Occupied),
         Said::Byte(byte) => Said::Byte(byte),
     }
 }
@@ -132,14 +148,27 @@ fn move_each(addressed: Addressed, count: usize, chips: [Chip; PLACES]) -> Playe
     }
 }
 
-// A byte sent means nothing to a chip that takes none.
-fn take_if(reached: bool, chip: Chip, byte: u8, values: &mut [u8; PAGE_MOST]) -> Stepped
-    ensures { λ r. ⌜ (r, now (values .exit)) ≡ cond reached (taken chip byte (now (values .entry))) (quiet chip, now (values .entry)) ⌝ }
+// Whether a byte sent, the first after a Start or not, may mean something to a chip.
+fn hears(first: bool, phase: Phase) -> bool
+    ensures { λ r. ⌜ r ≡ hears first phase ⌝ }
+{
+    or(is_taking(phase), and(first, is_busy(phase)))
+}
+
+// A byte sent means nothing to a chip that does not hear it.
+fn take_if(
+    reached: bool,
+    chip: Chip,
+    first: bool,
+    byte: u8,
+    values: &mut [u8; PAGE_MOST],
+) -> Stepped
+    ensures { λ r. ⌜ (r, now (values .exit)) ≡ cond reached (taken chip first byte (now (values .entry))) (quiet chip, now (values .entry)) ⌝ }
 {
     let control = chip.control;
     let phase = control.phase;
-    if and(reached, is_taking(phase)) {
-        return chip.take(byte, values);
+    if and(reached, hears(first, phase)) {
+        return chip.take(first, byte, values);
     }
     Stepped {
         chip,
@@ -149,12 +178,13 @@ fn take_if(reached: bool, chip: Chip, byte: u8, values: &mut [u8; PAGE_MOST]) ->
 
 fn take_each(
     addressed: Addressed,
+    first: bool,
     byte: u8,
     count: usize,
     chips: [Chip; PLACES],
     values: &mut [u8; PAGE_MOST],
 ) -> Played
-    requires { ⌜ eventOf addressed ≡ Event.Sent byte ⌝ }
+    requires { ⌜ eventOf addressed ≡ Event.Sent first byte ⌝ }
     ensures { λ r. ⌜ LeavesStores addressed count chips (now (values .entry)) r × (now (values .exit) ≡ valuesAfter addressed count chips (now (values .entry))) ⌝ }
 {
     let n = placed(count);
@@ -163,7 +193,7 @@ fn take_each(
     let mut i: usize = 0;
     while i < n {
         let chip = next[i];
-        let stepped = take_if(reaches(addressed, i), chip, byte, values);
+        let stepped = take_if(reaches(addressed, i), chip, first, byte, values);
         let after = stepped.chip;
         let more = stepped.said;
         next[i] = after;
@@ -313,7 +343,7 @@ pub fn play(
     match event {
         Event::Start => move_each(addressed, count, chips),
         Event::Stop => stop_each(addressed, count, chips, values, array, security),
-        Event::Sent(byte) => take_each(addressed, byte, count, chips, values),
+        Event::Sent(first, byte) => take_each(addressed, first, byte, count, chips, values),
         Event::Read(nack) => read_each(addressed, nack, count, chips, array, security),
         Event::Wp(_) => move_each(addressed, count, chips),
         Event::CycleOver => move_each(addressed, count, chips),
@@ -327,7 +357,7 @@ fn unanswered(event: Event) -> u8
     match event {
         Event::Start => SILENCE,
         Event::Stop => SILENCE,
-        Event::Sent(_) => SILENCE,
+        Event::Sent(_, _) => SILENCE,
         Event::Read(_) => IDLE,
         Event::Wp(_) => SILENCE,
         Event::CycleOver => SILENCE,
@@ -341,6 +371,7 @@ pub fn line_reply(event: Event, said: Said) -> u8
     match said {
         Said::Nothing => unanswered(event),
         Said::Ack => ACKNOWLEDGE,
+        Said::Occupied => OCCUPIED,
         Said::Byte(byte) => byte,
     }
 }

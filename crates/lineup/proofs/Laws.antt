@@ -1,4 +1,4 @@
--- What the lists of a line's places and of its controls hold, and how a test of pairs goes over to the controls.
+-- What the lists of a line's places and of its controls hold, and how tests of each and of pairs go over to the controls.
 use Prim.Native.Nat.{ℕ, _<_, _≤_}
 use native.Mathlib.Omega.{arith}
 use mathlib.Core.Bool.{Bool, _&&_}
@@ -11,9 +11,10 @@ use Rattle.control.specs.declared.Control.{Control}
 use Rattle.control.specs.Control.{fresh}
 use Rattle.chip.specs.declared.Chip.{Chip}
 use Rattle.board.specs.Place.{nowhere, placeAt}
+use Rattle.wellformed.specs.Wellformed.{heedsStart}
 use Rattle.wellformed.specs.Beside.{sideBySide}
 use Rattle.lineup.specs.Chips.{controlAt, placeOf, placesOf, controlsOf}
-use Rattle.lineup.specs.Wellformed.{besideOne}
+use Rattle.lineup.specs.Wellformed.{besideOne, heedsOne}
 use Rattle.lineup.proofs.Filled.{filled-at}
 
 -- a place is its chip's part and strap
@@ -33,3 +34,6 @@ beside-chips chips n most =
     (λ j fits before. rw (control-at chips i (omega arith), control-at chips j (omega arith)))
     _))
     _
+
+pub heed-chips : (started : Bool) (chips : List Chip) (n : ℕ) → n ≤ 4 → allBelow (heedsOne started (controlsOf chips)) n ≡ allBelow (λ (i : ℕ). heedsStart started (controlAt chips i .phase)) n
+heed-chips started chips n most = up-same _ _ n (λ i ok below. ap (λ (c : Control). heedsStart started (c .phase) && ok) (control-at chips i (omega arith))) _

@@ -10,6 +10,8 @@
 --     only a chip taking data bytes holds a load               onlyDataLoads, in spanFits: wellformed Wellformed
 --     loaded bytes run on from the first (request E10)         nextRunsOn, in spanFits: wellformed Wellformed
 --     every register's unused bits and ECS are 0               unusedBitsClear: wellformed Wellformed
+--     what a chip does while a Start is remembered, and while
+--     none is (request E8)                                     heedsStart: wellformed Wellformed
 --     awaiting an address byte, or the byte after F8h,
 --     counts as taking                                         isTaking: control Phase
 -- Places past the count are not looked at.
@@ -21,6 +23,7 @@ use Rattle.base.specs.Fold.{allBelow, allPairs}
 use Rattle.control.specs.declared.Control.{Control}
 use Rattle.control.specs.Control.{fresh}
 use Rattle.chip.specs.declared.Chip.{Chip}
+use Rattle.wellformed.specs.Wellformed.{heedsStart}
 use Rattle.wellformed.specs.Wellformed as chip
 use Rattle.wellformed.specs.Beside.{sideBySide}
 use Rattle.refusal.specs.Checks.{isPassed}
@@ -41,9 +44,17 @@ chipsFit count chips = allBelow (λ (i : ℕ). chip.wellFormed (chipAt chips i))
 abbrev pub chipsApart : ℕ → List Chip → Bool
 chipsApart count chips = allPairs (λ (i j : ℕ). sideBySide (controlAt chips i) (controlAt chips j)) (placed count)
 
--- two of the chips, by their controls alone
+-- two of the chips, and one, by their controls alone
 abbrev pub besideOne : List Control → ℕ → ℕ → Bool
 besideOne controls i j = sideBySide (getD controls i (fresh 0 0)) (getD controls j (fresh 0 0))
 
-unfoldable pub wellFormed : ℕ → List Chip → Bool
-wellFormed count chips = setUpPasses count chips && (chipsFit count chips && chipsApart count chips)
+abbrev pub heedsOne : Bool → List Control → ℕ → Bool
+heedsOne started controls i = heedsStart started (getD controls i (fresh 0 0) .phase)
+
+-- while a Start is remembered every chip takes an address byte or nothing, and only then one awaits it
+abbrev pub chipsHeed : ℕ → Bool → List Chip → Bool
+chipsHeed count started chips = allBelow (λ (i : ℕ). heedsStart started (controlAt chips i .phase)) (placed count)
+
+-- of a state: its count of chips, whether a Start is remembered, and its chips
+unfoldable pub wellFormed : ℕ → Bool → List Chip → Bool
+wellFormed count started chips = setUpPasses count chips && (chipsFit count chips && (chipsApart count chips && chipsHeed count started chips))

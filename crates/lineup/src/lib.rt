@@ -8,12 +8,13 @@ use chip::Chip;
 use control::Control;
 use refusal::is_passed;
 use wellformed::beside::side_by_side;
+use wellformed::heeds_start;
 ghost use mathlib.Core.Path.{_≡_};
 ghost use Prim.Native.Nat.{ℕ, _≤_, _<_};
 ghost use Rattle.base.specs.Fold.{allBelow, allPairs};
 ghost use Rattle.wellformed.specs.Wellformed as one;
 ghost use Rattle.lineup.specs.Chips.{chipAt, placesOf, controlsOf};
-ghost use Rattle.lineup.specs.Wellformed.{besideOne, wellFormed};
+ghost use Rattle.lineup.specs.Wellformed.{besideOne, heedsOne, wellFormed};
 
 // Every chip's part and strap, those past the count too.
 pub fn places_of(chips: [Chip; PLACES]) -> [Place; PLACES]
@@ -94,12 +95,29 @@ fn chips_apart(n: usize, controls: [Control; PLACES]) -> bool
     apart
 }
 
+// Each chip and the Start that the line remembers, or none.
+fn chips_heed(n: usize, started: bool, controls: [Control; PLACES]) -> bool
+    requires { ⌜ n ≤ 4 ⌝ }
+    ensures { λ r. ⌜ r ≡ allBelow (heedsOne started controls) n ⌝ }
+{
+    let mut heed = true;
+    let mut i: usize = 0;
+    while i < n {
+        let control = controls[i];
+        let phase = control.phase;
+        heed = and(heeds_start(started, phase), heed);
+        i += 1;
+    }
+    heed
+}
+
 // Whatever numbers a state holds, it is well formed or not.
-pub fn well_formed(count: usize, chips: [Chip; PLACES]) -> bool
-    ensures { λ r. ⌜ r ≡ wellFormed count chips ⌝ }
+pub fn well_formed(count: usize, started: bool, chips: [Chip; PLACES]) -> bool
+    ensures { λ r. ⌜ r ≡ wellFormed count started chips ⌝ }
 {
     let n = placed(count);
+    let controls = controls_of(chips);
     let set_up = is_passed(board_verdict(count, places_of(chips)));
-    let apart = chips_apart(n, controls_of(chips));
-    and(set_up, and(chips_fit(n, chips), apart))
+    let beside = and(chips_apart(n, controls), chips_heed(n, started, controls));
+    and(set_up, and(chips_fit(n, chips), beside))
 }

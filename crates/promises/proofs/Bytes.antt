@@ -2,6 +2,7 @@
 -- places, and the line carries what a chip said, or 00 or FF.
 use Prim.Native.Nat.{ℕ}
 use native.Mathlib.Omega.{arith}
+use mathlib.Core.Bool.{Bool}
 use mathlib.Core.List.{List}
 use lib.Dec.{eqb}
 use Rattle.base.specs.Every.{Every, FitsByte, AllBytes}
@@ -9,7 +10,7 @@ use Rattle.base.proofs.logic.Laws.{either}
 use Rattle.base.proofs.Fold.{up-keeps}
 use Rattle.base.proofs.Every.{every-at, every-so, every-set, every-span, every-patched}
 use Rattle.control.specs.declared.Said.{Said}
-use Rattle.control.specs.declared.Said.the-variants.{Nothing, Ack, Byte}
+use Rattle.control.specs.declared.Said.the-variants.{Nothing, Ack, Occupied, Byte}
 use Rattle.chip.specs.declared.Chip.{Chip}
 use Rattle.chip.specs.declared.Stepped as chip
 use Rattle.chip.specs.declared.event.Event.{Event}
@@ -42,9 +43,9 @@ use Rattle.promises.specs.Bytes.{HoldsBytes}
 abbrev pub Brings : Addressed → Type 0
 Brings addressed = EventByte (eventOf addressed)
 
-pub brings-a-byte : (word : ℕ) → Brings (addressedOf word)
+pub brings-a-byte : (started : Bool) (word : ℕ) → Brings (addressedOf started word)
 unfolding addressedOf
-brings-a-byte word =
+brings-a-byte started word =
     either Brings (eqb (kindOf word) 1) _ _ tt
     (either Brings (eqb (kindOf word) 2) _ _ tt
     (either Brings (eqb (kindOf word) 3) _ _ (omega arith)
@@ -60,6 +61,10 @@ LineBytes world = Every ChipBytes (world .0 .chips) × SaidByte (world .0 .said)
 heard-byte : (before said : Said) → SaidByte before → SaidByte said → SaidByte (heard before said)
 heard-byte before Nothing was is = was
 heard-byte before Ack was is = tt
+heard-byte Nothing Occupied was is = tt
+heard-byte Ack Occupied was is = tt
+heard-byte Occupied Occupied was is = tt
+heard-byte (Byte byte) Occupied was is = was
 heard-byte before (Byte byte) was is = is
 
 landed-bytes : (places : List Place) (i : ℕ) (world : OnLine) (stepped : chip.Stepped × List ℕ × List ℕ) → LineBytes world → StepBytes stepped
@@ -102,7 +107,7 @@ values-bytes addressed count chips values brought =
 unanswered-byte : (event : Event) → FitsByte (unanswered event)
 unanswered-byte Start = omega arith
 unanswered-byte Stop = omega arith
-unanswered-byte (Sent byte) = omega arith
+unanswered-byte (Sent first byte) = omega arith
 unanswered-byte (Read nack) = omega arith
 unanswered-byte (Wp level) = omega arith
 unanswered-byte CycleOver = omega arith
@@ -111,6 +116,7 @@ unanswered-byte PowerUp = omega arith
 reply-byte : (event : Event) (said : Said) → SaidByte said → FitsByte (lineReply event said)
 reply-byte event Nothing is = unanswered-byte event
 reply-byte event Ack is = omega arith
+reply-byte event Occupied is = omega arith
 reply-byte event (Byte byte) is = is
 
 -- a reply is a byte
@@ -121,8 +127,8 @@ AnswerByte (answer.Refused refusal) = Unit {0}
 abbrev EndsInBytes : Stepped × List ℕ × List ℕ → Type 0
 EndsInBytes next = HoldsBytes (next .0 .bus) (next .1) (next .2) × AnswerByte (next .0 .answer)
 
-done-bytes : (event : Event) (count : ℕ) (world : OnLine) (values : List ℕ) → LineBytes world → AllBytes values → EndsInBytes (done event count (world, values))
-done-bytes event count world values (chips, said, array, security) in-values =
+done-bytes : (event : Event) (count : ℕ) (started : Bool) (world : OnLine) (values : List ℕ) → LineBytes world → AllBytes values → EndsInBytes (done event count started (world, values))
+done-bytes event count started world values (chips, said, array, security) in-values =
     (record { in-chips = chips; in-values = in-values; in-array = array; in-security = security }, reply-byte event (world .0 .said) said)
 
 -- a value of the type `Bus` holds bytes
@@ -134,9 +140,9 @@ module _ (bus : Bus) (array security : List ℕ) (word : ℕ) (now : HoldsBytes 
   ends-in-bytes : (verdict : Verdict) → EndsInBytes (stepBy verdict bus array security word)
   unfolding played
   ends-in-bytes Passed =
-      done-bytes (eventOf (addressedOf word)) (bus .count) (play (addressedOf word) (bus .count) (bus .chips) (bus .values) array security) (valuesAfter (addressedOf word) (bus .count) (bus .chips) (bus .values))
-      (play-bytes (addressedOf word) bus array security (brings-a-byte word) now)
-      (values-bytes (addressedOf word) (bus .count) (bus .chips) (bus .values) (brings-a-byte word) (now .in-values))
+      done-bytes (eventOf (addressedOf (bus .started) word)) (bus .count) (bus .started) (play (addressedOf (bus .started) word) (bus .count) (bus .chips) (bus .values) array security) (valuesAfter (addressedOf (bus .started) word) (bus .count) (bus .chips) (bus .values))
+      (play-bytes (addressedOf (bus .started) word) bus array security (brings-a-byte (bus .started) word) now)
+      (values-bytes (addressedOf (bus .started) word) (bus .count) (bus .chips) (bus .values) (brings-a-byte (bus .started) word) (now .in-values))
   ends-in-bytes (Refused refusal) = (now, tt)
 
   pub every-step-keeps-bytes : let next = step bus array security word in HoldsBytes (next .0 .bus) (next .1) (next .2)

@@ -69,9 +69,9 @@ module _ (call : StepCall) where
 
   -- one that is not refused is the chip's step at each chip, on its own shares
   pub a-step-is-each-chips-own : statusIn (stepMade .0 .answer) ≡ 0 → (i : ℕ) → i < stepFrom .0 .count
-      → (chipAt (stepMade .0 .bus .chips) i ≡ own (addressedOf stepWord) (stepFrom .0 .chips) (stepFrom .0 .values) (stepFrom .1) (stepFrom .2) i .0 .chip)
-      × (arrayShare (placesOf (stepFrom .0 .chips)) i (stepMade .1) ≡ own (addressedOf stepWord) (stepFrom .0 .chips) (stepFrom .0 .values) (stepFrom .1) (stepFrom .2) i .1)
-      × (securityShare (placesOf (stepFrom .0 .chips)) i (stepMade .2) ≡ own (addressedOf stepWord) (stepFrom .0 .chips) (stepFrom .0 .values) (stepFrom .1) (stepFrom .2) i .2)
+      → (chipAt (stepMade .0 .bus .chips) i ≡ own (addressedOf (stepFrom .0 .started) stepWord) (stepFrom .0 .chips) (stepFrom .0 .values) (stepFrom .1) (stepFrom .2) i .0 .chip)
+      × (arrayShare (placesOf (stepFrom .0 .chips)) i (stepMade .1) ≡ own (addressedOf (stepFrom .0 .started) stepWord) (stepFrom .0 .chips) (stepFrom .0 .values) (stepFrom .1) (stepFrom .2) i .1)
+      × (securityShare (placesOf (stepFrom .0 .chips)) i (stepMade .2) ≡ own (addressedOf (stepFrom .0 .started) stepWord) (stepFrom .0 .chips) (stepFrom .0 .values) (stepFrom .1) (stepFrom .2) i .2)
   a-step-is-each-chips-own done i below =
       let says = ap (λ (m : Made). statusIn (m .0 .answer)) (call .ensured) in
       let passes = status-passed (firstOf (stepChecks (stepFrom .0) (stepFrom .1) (stepFrom .2) stepWord)) (sym (step-says (stepFrom .0) (stepFrom .1) (stepFrom .2) stepWord) ∙ sym says ∙ done) in
@@ -83,7 +83,7 @@ module _ (call : StepCall) where
       places = placesOf (stepFrom .0 .chips)
 
       mine : chip.Stepped × List ℕ × List ℕ
-      mine = own (addressedOf stepWord) (stepFrom .0 .chips) (stepFrom .0 .values) (stepFrom .1) (stepFrom .2) i
+      mine = own (addressedOf (stepFrom .0 .started) stepWord) (stepFrom .0 .chips) (stepFrom .0 .values) (stepFrom .1) (stepFrom .2) i
 
   -- it leaves a bus that passes the checks at entry where it was given one
   pub a-step-keeps-the-bus-well-formed : firstOf (entryChecks (stepFrom .0) (stepFrom .1) (stepFrom .2)) ≡ Passed

@@ -26,11 +26,11 @@ use Rattle.promises.proofs.Exactly.{step-exactly-when, step-passes-exac
 use Rattle.promises.proofs.Formed.{none-holds}
 
 -- only 07 asks for a busy chip, and it asks the chip that it names
-asks-its-chip : (kind value : ℕ) (chips : List Chip) → notBusy (addressedIn kind value) chips ≡ true → (kind ≡ 7) × (isBusy (controlAt chips value .phase) ≡ false)
-asks-its-chip kind value chips = go (eqb kind 1) (eqb kind 2) (eqb kind 3) (eqb kind 4) (eqb kind 5) (eqb kind 6) (eqb kind 7) refl
+asks-its-chip : (started : Bool) (kind value : ℕ) (chips : List Chip) → notBusy (addressedIn started kind value) chips ≡ true → (kind ≡ 7) × (isBusy (controlAt chips value .phase) ≡ false)
+asks-its-chip started kind value chips = go (eqb kind 1) (eqb kind 2) (eqb kind 3) (eqb kind 4) (eqb kind 5) (eqb kind 6) (eqb kind 7) refl
   where
     go : (one two three four five six seven : Bool) → eqb kind 7 ≡ seven
-        → notBusy (cond one (ToAll Start) (cond two (ToAll Stop) (cond three (ToAll (Sent value)) (cond four (ToAll (Read (eqb value 1)))
+        → notBusy (cond one (ToAll Start) (cond two (ToAll Stop) (cond three (ToAll (Sent started value)) (cond four (ToAll (Read (eqb value 1)))
         (cond five (ToOne value (Wp false)) (cond six (ToOne value (Wp true)) (cond seven (ToOne value CycleOver) (ToAll PowerUp)))))))) chips ≡ true
         → (kind ≡ 7) × (isBusy (controlAt chips value .phase) ≡ false)
     go true two three four five six seven is given = absurd (false≢true given)
@@ -56,7 +56,7 @@ module _ (bus : Bus) (array security : List ℕ) (word : ℕ) where
       let exactly = step-exactly-when bus array security word 12 (omega arith) in (
         λ given.
             let found = exactly .0 given in
-            let (kind, free) = asks-its-chip (kindOf word) (valueOf word) (bus .chips) (found .1 .1 .1 .1) in
+            let (kind, free) = asks-its-chip (bus .started) (kindOf word) (valueOf word) (bus .chips) (found .1 .1 .1 .1) in
             ((rw (found .0, found .1 .0), rw (found .1 .1 .0, found .1 .1 .1 .0), kind), free),
         λ holds.
             let entry = none-holds (entryChecks bus array security) (holds .0 .0) in

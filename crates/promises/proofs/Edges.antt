@@ -1,6 +1,6 @@
 -- The paper's edges marked (P), computed from the definitions: one list, one theorem ("On both sides of each edge").
 use Prim.Native.Nat.{ℕ}
-use mathlib.Core.Bool.{false, cond}
+use mathlib.Core.Bool.{true, false, cond}
 use mathlib.Core.List.{List, [], _∷_, _++_, map}
 use mathlib.Core.Path.{_≡_, refl}
 use lib.ListN.{replicate, set, getD}
@@ -12,7 +12,7 @@ use Rattle.regions.specs.Counter.{counterIn}
 use Rattle.load.specs.Load.{noValues, storePage}
 use Rattle.control.specs.Phase.{isBusy}
 use Rattle.control.specs.Said.{replyOf}
-use Rattle.addressing.specs.Address.{callOf, takeAddress, takeChoice}
+use Rattle.addressing.specs.Address.{callOf, takeAddress, takeBusy, takeChoice}
 use Rattle.taking.specs.Taking as taking
 use Rattle.taking.specs.Taking.{take, spanAfter}
 use Rattle.sending.specs.Sending.{read}
@@ -44,7 +44,7 @@ holdsAt at events = getD (after events .1) at 0
 
 -- bytes written from an address of two bytes on
 abbrev written : ℕ → ℕ → List ℕ → List Event
-written high low bytes = (Start ∷ Sent 0xA0 ∷ Sent high ∷ Sent low ∷ map Sent bytes) ++ (Stop ∷ [])
+written high low bytes = (Start ∷ Sent true 0xA0 ∷ Sent false high ∷ Sent false low ∷ map (Sent false) bytes) ++ (Stop ∷ [])
 
 -- 00h, 01h, .. as many as asked
 abbrev rising : ℕ → List ℕ
@@ -54,12 +54,12 @@ rising count = upTo (λ (n : ℕ) (bytes : List ℕ). bytes ++ (n ∷ [])) count
 abbrev readAtEnd : ℕ → ℕ
 readAtEnd more =
     replyOf 0xFF
-    (after ((Start ∷ Sent 0xA0 ∷ Sent 0x0F ∷ Sent 0xFF ∷ Start ∷ Sent 0xA1 ∷ []) ++ replicate more (Read false)) .0 .said)
+    (after ((Start ∷ Sent true 0xA0 ∷ Sent false 0x0F ∷ Sent false 0xFF ∷ Start ∷ Sent true 0xA1 ∷ []) ++ replicate more (Read false)) .0 .said)
 
 -- both configuration bytes written, with some confirmation
 abbrev configures : ℕ → ℕ → ℕ → List Event
 configures byte0 byte1 confirmation =
-    Start ∷ Sent 0xB0 ∷ Sent 0x88 ∷ Sent 0x00 ∷ Sent byte0 ∷ Sent byte1 ∷ Sent confirmation ∷ Stop ∷ []
+    Start ∷ Sent true 0xB0 ∷ Sent false 0x88 ∷ Sent false 0x00 ∷ Sent false byte0 ∷ Sent false byte1 ∷ Sent false confirmation ∷ Stop ∷ []
 
 -- a register that holds 02h 0Fh is sent 03h FFh, so LOCK 1, with some confirmation; then some events
 abbrev locking : ℕ → List Event → Stepped × List ℕ × List ℕ × List ℕ
@@ -73,11 +73,11 @@ abbrev cycleAfter : ℕ → ℕ
 cycleAfter confirmation = cond (isBusy (locking confirmation [] .0 .chip .control .phase)) 1 0
 
 abbrev nextAddress : ℕ → ℕ
-nextAddress confirmation = replyOf 0x00 (locking confirmation (Start ∷ Sent 0xA0 ∷ []) .0 .said)
+nextAddress confirmation = replyOf 0x00 (locking confirmation (Start ∷ Sent true 0xA0 ∷ []) .0 .said)
 
 -- the array counter of a 24CSM01 at strap 2 after an address byte and the word address 0000h
 abbrev counterBy : ℕ → ℕ
-counterBy byte = chipPlayed (Start ∷ Sent byte ∷ Sent 0x00 ∷ Sent 0x00 ∷ []) (quiet (fresh m01 2), [], [], noValues) .0 .chip .control .arraycounter
+counterBy byte = chipPlayed (Start ∷ Sent true byte ∷ Sent false 0x00 ∷ Sent false 0x00 ∷ []) (quiet (fresh m01 2), [], [], noValues) .0 .chip .control .arraycounter
 
 -- a 24CSM01 and a 24CS32 on one board with stores that fit, and what set-up answers
 abbrev place : ℕ → ℕ → Place
@@ -118,18 +118,18 @@ edges =
     -- 24CSM01 strap 1 with 24CS32 strap 3: refusal 4; with strap 4: accepted
     ∷ (setUpOf (place m01 1) (place cs32 3), 4)
     ∷ (setUpOf (place m01 1) (place cs32 4), 0)
-    -- LOCK 1 confirmed by 66h: unchanged, no cycle, and the next address byte is acknowledged; by 99h it is otherwise
+    -- LOCK 1 confirmed by 66h: unchanged, no cycle, and the next address byte is acknowledged; by 99h it is otherwise, and the next address byte finds the chip busy (request E8)
     ∷ (registerAfter 0x66, 0x020F)
     ∷ (cycleAfter 0x66, 0)
     ∷ (nextAddress 0x66, 0x01)
     ∷ (registerAfter 0x99, 0x03FF)
     ∷ (cycleAfter 0x99, 1)
-    ∷ (nextAddress 0x99, 0x00)
+    ∷ (nextAddress 0x99, 0x02)
     -- three 24CS32 need 12,288 and 192 bytes (paper, "The two memories")
     ∷ (arrayStart three 3, 12288)
     ∷ (securityStart three 3, 192)
     ∷ []
 
 pub edges-hold : map (λ (edge : ℕ × ℕ). edge .0) edges ≡ map (λ (edge : ℕ × ℕ). edge .1) edges
-unfolding edges step valuesAfter take spanAfter taking.valuesAfter takeAddress takeChoice callOf geometryOf read stop storePage upTo setUp
+unfolding edges step valuesAfter take spanAfter taking.valuesAfter takeAddress takeBusy takeChoice callOf geometryOf read stop storePage upTo setUp
 edges-hold = refl

@@ -59,9 +59,9 @@ abbrev identifies : Chip → ℕ → Chip
 identifies c n = record { control = inPhase (SendsByte (FromId (n % 3))) (c .control); span = c .span }
 
 module _ (c : Chip) (values array security : List ℕ) where
-  asked-identifies : IsAsked (c .control) → step c values array security (Sent 0xF9) ≡ (record { chip = identifies c 0; said = Ack }, array, security)
+  asked-identifies : (first : Bool) → IsAsked (c .control) → step c values array security (Sent first 0xF9) ≡ (record { chip = identifies c 0; said = Ack }, array, security)
   unfolding step take spanAfter takeAddress callOf
-  asked-identifies asked = rw (asked .awaits, asked .chosen)
+  asked-identifies first asked = rw (asked .awaits, asked .chosen)
 
   sends-round : (n : ℕ) (nack : Bool) → step (identifies c n) values array security (Read nack) .0 .said ≡ Byte (roundByte (c .control) n)
   unfolding step read
@@ -88,10 +88,10 @@ pub id-goes-round : (c : Chip) (values array security : List ℕ) → IsAsked (c
     → let at = chipPlayed (idEvents n) (quiet c, array, security, values) in
     step (at .0 .chip) (at .3) (at .1) (at .2) (Read nack) .0 .said ≡ Byte (roundByte (c .control) n)
 id-goes-round c values array security asked n nack =
-    let then = valuesAfter c (Sent 0xF9) values in
+    let then = valuesAfter c (Sent true 0xF9) values in
     let at = chipPlayed (idEvents n) (quiet c, array, security, values) in
     let (there, same-array, same-security) =
-    subst (λ (x : Stepped × List ℕ × List ℕ). Sends c values array security n (chipPlayed (replicate n (Read false)) (x .0, x .1, x .2, then))) (sym (asked-identifies c values array security asked))
+    subst (λ (x : Stepped × List ℕ × List ℕ). Sends c values array security n (chipPlayed (replicate n (Read false)) (x .0, x .1, x .2, then))) (sym (asked-identifies c values array security true asked))
     (goes-round c array security n 0 n (omega arith) Ack then) in
     rw (there, same-array, same-security) (sends-round c (at .3) array security n nack)
 
@@ -99,7 +99,7 @@ id-goes-round c values array security asked n nack =
 abbrev idRead : ℕ → ℕ → ℕ
 idRead part n =
     replyOf 0xFF
-    (chipPlayed ((Start ∷ Sent 0xF8 ∷ Sent 0xA0 ∷ Start ∷ []) ++ (idEvents n ++ (Read true ∷ []))) (quiet (fresh part 0), [], [], noValues) .0 .said)
+    (chipPlayed ((Start ∷ Sent true 0xF8 ∷ Sent false 0xA0 ∷ Start ∷ []) ++ (idEvents n ++ (Read true ∷ []))) (quiet (fresh part 0), [], [], noValues) .0 .said)
 
 pub seven-id-bytes :
     map (idRead 1) (0 ∷ 1 ∷ 2 ∷ 3 ∷ 4 ∷ 5 ∷ 6 ∷ []) ++ map (idRead 2) (0 ∷ 1 ∷ 2 ∷ 3 ∷ 4 ∷ 5 ∷ 6 ∷ [])
@@ -125,7 +125,7 @@ module _ (world : World) (typed : OfItsType (busOf world)) (enters : firstOf (en
   others-beside j before differ = go (decLt j k) (decLt k j)
     where
       apart : (i j : ℕ) → i < placed count → j < i → sideBySide (controlAt chips i) (controlAt chips j) ≡ true
-      apart = formed-of count chips (entry .formed) .apart
+      apart = formed-of count (busOf world .started) chips (entry .formed) .apart
 
       go : Dec (j < k) → Dec (k < j) → sideBySide (controlAt chips k) (controlAt chips j) ≡ true
       go (yes p) q = apart k j here p
@@ -133,13 +133,13 @@ module _ (world : World) (typed : OfItsType (busOf world)) (enters : firstOf (en
       go (no p) (no q) = absurd (differ (omega arith))
 
   -- an event to all that clashes with no chip passes all checks
-  passes : (word : ℕ) (event : Event) → firstOf (decodeChecks count word) ≡ Passed → addressedOf word ≡ ToAll event
+  passes : (word : ℕ) (event : Event) → firstOf (decodeChecks count word) ≡ Passed → addressedOf (busOf world .started) word ≡ ToAll event
       → ((j : ℕ) → j < placed count → (j ≡ k → ⊥) → clashesWith event (controlAt chips j .phase) ≡ false)
       → clashesWith event (controlAt chips k .phase) ≡ false
       → firstOf (stepChecks (busOf world) (arrayOf world) (securityOf world) word) ≡ Passed
   passes word event decodes asks others mine =
       passed-first (entryChecks (busOf world) (arrayOf world) (securityOf world)) (eventChecks (busOf world) word) enters
-      ∙ passed-first (decodeChecks count word) (lineChecks (addressedOf word) count chips) decodes
+      ∙ passed-first (decodeChecks count word) (lineChecks (addressedOf (busOf world .started) word) count chips) decodes
       ∙ rw (asks, any-one (λ (i : ℕ). clashesWith event (controlAt chips i .phase)) (placed count) k here others, mine)
 
   -- F9h, where the chip is chosen: no other sends
@@ -147,7 +147,7 @@ module _ (world : World) (typed : OfItsType (busOf world)) (enters : firstOf (en
     f9-passes : firstOf (stepChecks (busOf world) (arrayOf world) (securityOf world) (wordOf 3 0xF9)) ≡ Passed
     unfolding addressedOf
     f9-passes =
-        passes (wordOf 3 0xF9) (Sent 0xF9) refl refl
+        passes (wordOf 3 0xF9) (Sent (busOf world .started) 0xF9) refl refl
         (λ j before differ. no-other-sends (controlAt chips k) (controlAt chips j) (others-beside j before differ) (rw (asked .chosen)))
         (rw (asked .awaits))
 
@@ -155,7 +155,7 @@ module _ (world : World) (typed : OfItsType (busOf world)) (enters : firstOf (en
     unfolding addressedOf
     f9-taken =
         step-is-each-chips-own (busOf world) (arrayOf world) (securityOf world) (wordOf 3 0xF9) typed f9-passes k below .0
-        ∙ ap (λ (at : Stepped × List ℕ × List ℕ). at .0 .chip) (asked-identifies (chipAt chips k) _ _ _ asked)
+        ∙ ap (λ (at : Stepped × List ℕ × List ℕ). at .0 .chip) (asked-identifies (chipAt chips k) _ _ _ _ asked)
 
   -- a byte read, where the chip sends its ID: no other takes
   module _ (c : Chip) (n : ℕ) (sends : chipAt chips k ≡ identifies c n) (nack : Bool) where
@@ -165,11 +165,11 @@ module _ (world : World) (typed : OfItsType (busOf world)) (enters : firstOf (en
     abbrev security : List ℕ
     security = securityShare (placesOf chips) k (securityOf world)
 
-    asks : addressedOf (readWord nack) ≡ ToAll (Read nack)
+    asks : addressedOf (busOf world .started) (readWord nack) ≡ ToAll (Read nack)
     unfolding addressedOf
     asks = go nack
       where
-        go : (nack : Bool) → addressedOf (readWord nack) ≡ ToAll (Read nack)
+        go : (nack : Bool) → addressedOf (busOf world .started) (readWord nack) ≡ ToAll (Read nack)
         go true = refl
         go false = refl
 
@@ -193,7 +193,7 @@ module _ (world : World) (typed : OfItsType (busOf world)) (enters : firstOf (en
         ap answerWord (step-answers-for-all (busOf world) (arrayOf world) (securityOf world) (readWord nack) typed read-passes)
         ∙ rw (
           asks,
-          the-sender-is-heard nack count chips (busOf world .values) (arrayOf world) (securityOf world) k (entry .formed) here is-sending,
+          the-sender-is-heard nack count (busOf world .started) chips (busOf world .values) (arrayOf world) (securityOf world) k (entry .formed) here is-sending,
           sends,
           sends-round c (busOf world .values) array security n nack,
         )

@@ -11,6 +11,7 @@ pub mod Lengths
 pub mod Readonly
 pub mod Registers
 pub mod Beside
+pub mod Heeding
 pub mod Loads
 pub mod Values
 pub mod Bytes

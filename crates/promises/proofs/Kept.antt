@@ -3,56 +3,71 @@
 use Prim.Native.Nat.{ℕ, _<_}
 use native.Mathlib.Decide.{decLt}
 use native.Mathlib.Omega.{arith}
-use mathlib.Core.Bool.{true, false}
+use mathlib.Core.Bool.{Bool, true, false, false≢true}
 use mathlib.Core.List.{List}
 use mathlib.Core.Path.{_≡_, _∙_, refl, sym, ap, subst}
 use lib.Dec.{eqb}
 use lib.ListN.{length, set, replicate}
 use Rattle.base.proofs.logic.Laws.{either}
-use Rattle.base.proofs.Fold.{up-same, up-keeps, any-pair-none}
+use Rattle.base.proofs.Fold.{up-same, up-keeps, any-none}
 use Rattle.base.proofs.Every.{every-of}
 use Rattle.chip.specs.declared.Chip.{Chip}
 use Rattle.chip.specs.declared.Stepped.{Stepped}
 use Rattle.chip.specs.declared.event.Event.{Event}
+use Rattle.chip.specs.declared.event.Event.the-variants.{Start, Stop, Sent, Read, Wp, CycleOver, PowerUp}
 use Rattle.chip.proofs.Typed.{ChipTyped}
+use Rattle.wellformed.specs.Wellformed.{heedsStart}
 use Rattle.wellformed.specs.Wellformed as alone
 use Rattle.wellformed.specs.Beside.{sideBySide}
 use Rattle.promises.proofs.Keeping.Wellformed.{kept}
+use Rattle.promises.proofs.Keeping.Heeding.{heeds-kept}
 use Rattle.promises.proofs.Keeping.Registers.{part-kept, strap-kept}
 use Rattle.promises.proofs.Keeping.Typed.{chip-typed-kept, values-long-kept}
-use Rattle.promises.proofs.Keeping.Beside.{isNamed, named-kept, side-by-side-kept, beside-sym}
+use Rattle.promises.proofs.Keeping.Beside.{namesAChip, named-kept, side-by-side-kept, beside-sym}
 use Rattle.refusal.specs.declared.Verdict.{Verdict}
 use Rattle.refusal.specs.declared.Verdict.the-variants.{Passed, Refused}
 use Rattle.refusal.specs.Checks.{firstOf}
 use Rattle.board.specs.Place.{nowhere, placed}
-use Rattle.board.specs.Board.{sharedAddress, boardChecks, boardVerdict}
 use Rattle.board.specs.Shares.{arrayStart, securityStart}
-use Rattle.board.proofs.Laws.{placed-most}
 use Rattle.decode.specs.declared.Addressed.{Addressed}
 use Rattle.decode.specs.declared.Addressed.the-variants.{ToAll, ToOne}
 use Rattle.decode.specs.Decode.{kindOf, addressedOf, reaches, eventOf}
-use Rattle.lineup.proofs.Laws.{place-at}
+use Rattle.decode.specs.Hearing.{clashesWith}
 use Rattle.lineup.specs.Chips.{noChip, chipAt, controlAt, placeOf, placesOf}
 use Rattle.lineup.specs.Wellformed.{wellFormed}
 use Rattle.line.specs.declared.Played.{Played}
-use Rattle.line.specs.Line.{play, chipLoads, valuesAfter}
+use Rattle.line.specs.Line.{clash, play, chipLoads, valuesAfter}
 use Rattle.bus.specs.declared.Bus.{Bus}
-use Rattle.bus.specs.Step.{entryChecks, eventChecks, stepBy, played, event}
+use Rattle.bus.specs.Step.{entryChecks, eventChecks, busWith, remembers, stepBy, played, event}
 use Rattle.bus.proofs.Typed.{OfItsType, count-fits, has-four, values-typed, bus-typed, chip-typed}
 use Rattle.promises.specs.Own.{own}
 use Rattle.promises.specs.Playing.{Made}
 use Rattle.promises.proofs.Bytes.{Brings, brings-a-byte, values-bytes}
 use Rattle.promises.proofs.Chips.{each-chip-takes-its-own, the-rest-stays, stores-keep-their-length, chips-stay-four}
-use Rattle.promises.proofs.Formed.{none-holds, Formed, formed-of, of-formed, EntryHolds, entry-of, of-entry}
+use Rattle.promises.proofs.Formed.{none-holds, Formed, formed-of, of-formed, unshared, EntryHolds, entry-of, of-entry}
+
+-- checks of the line that pass find no chip that clashes
+no-clash : (addressed : Addressed) (bus : Bus) (word : ℕ) → addressed ≡ addressedOf (bus .started) word → firstOf (eventChecks bus word) ≡ Passed → clash (eventOf addressed) (bus .count) (bus .chips) ≡ false
+no-clash addressed bus word is passes = rw is (none-holds (eventChecks bus word) passes .1 .1 .1 .0)
+
+-- an event that names a chip keeps the Start that is remembered
+pub named-remembers : (e : Event) (started : Bool) → namesAChip e ≡ true → remembers e started ≡ started
+named-remembers Start started named = absurd (false≢true named)
+named-remembers Stop started named = absurd (false≢true named)
+named-remembers (Sent first byte) started named = absurd (false≢true named)
+named-remembers (Read nack) started named = absurd (false≢true named)
+named-remembers (Wp level) started named = refl
+named-remembers CycleOver started named = refl
+named-remembers PowerUp started named = absurd (false≢true named)
 
 -- an event that names one chip is of a kind that moves it into no chip's way
 abbrev Fair : Addressed → Type 0
 Fair (ToAll e) = Unit {0}
-Fair (ToOne k e) = isNamed e ≡ true
+Fair (ToOne k e) = namesAChip e ≡ true
 
-addressed-fair : (word : ℕ) → Fair (addressedOf word)
+addressed-fair : (started : Bool) (word : ℕ) → Fair (addressedOf started word)
 unfolding addressedOf
-addressed-fair word =
+addressed-fair started word =
     either Fair (eqb (kindOf word) 1) _ _ tt
     (either Fair (eqb (kindOf word) 2) _ _ tt
     (either Fair (eqb (kindOf word) 3) _ _ tt
@@ -91,32 +106,28 @@ module _ (addressed : Addressed) (count : ℕ) (chips : List Chip) (values array
   places-stay = up-same _ _ 4 (λ i places below. ap (set places i) (place-kept i (decLt i (placed count)))) (replicate 4 nowhere)
 
   -- an event that names a chip keeps every chip beside any other, whether it reaches it or not
-  one-kept : (k : ℕ) (e : Event) → isNamed e ≡ true → (i : ℕ) (d : Chip) → sideBySide (controlAt chips i) (d .control) ≡ true
+  one-kept : (k : ℕ) (e : Event) → namesAChip e ≡ true → (i : ℕ) (d : Chip) → sideBySide (controlAt chips i) (d .control) ≡ true
       → sideBySide (mine (ToOne k e) i .control) (d .control) ≡ true
   one-kept k e named i d test =
       either (λ (x : Stepped × List ℕ × List ℕ). sideBySide (x .0 .chip .control) (d .control) ≡ true) (eqb i k) _ _
       (named-kept (chipAt chips i) d _ _ _ e named test)
       test
 
-  module _ (formed : Formed count chips) where
+  calm-at : (e : Event) → clash e count chips ≡ false → (i : ℕ) → i < placed count → clashesWith e (controlAt chips i .phase) ≡ false
+  calm-at e calm i below = any-none (λ (i : ℕ). clashesWith e (controlAt chips i .phase)) (placed count) i calm below
+
+  module _ (started : Bool) (formed : Formed count started chips) where
     fit-now : (i : ℕ) → i < placed count → alone.wellFormed (mine addressed i) ≡ true
     fit-now i below =
         either (λ (x : Stepped × List ℕ × List ℕ). alone.wellFormed (x .0 .chip) ≡ true) (reaches addressed i) _ _
         (kept (chipAt chips i) _ _ _ (eventOf addressed) (formed .fit i below))
         (formed .fit i below)
 
-    -- the last of set-up's checks
-    unshared : (i j : ℕ) → i < placed count → j < i → sharedAddress (placesOf chips) i j ≡ false
-    unfolding boardVerdict
-    unshared i j =
-        any-pair-none (sharedAddress (placesOf chips)) (placed count) i j
-        (none-holds (boardChecks count (placesOf chips)) (formed .set-up) .1 .1 .1 .0)
-
     -- an event to all moves both chips at once; one that names a chip moves them one after the other
     apart-now : (o : Addressed) → Fair o → (i j : ℕ) → i < placed count → j < i → sideBySide (mine o i .control) (mine o j .control) ≡ true
     apart-now (ToAll e) fair i j below before =
         side-by-side-kept (chipAt chips i) (chipAt chips j) _ _ _ _ _ _ e (formed .fit i below) (formed .fit j (omega arith))
-        (rw (place-at chips i (omega (arith, placed-most count)), place-at chips j (omega (arith, placed-most count))) at (unshared i j below before))
+        (unshared formed i j below before)
         (formed .apart i j below before)
     apart-now (ToOne k e) fair i j below before =
         let c = mine (ToOne k e) i in
@@ -124,18 +135,29 @@ module _ (addressed : Addressed) (count : ℕ) (chips : List Chip) (values array
         (one-kept k e fair j c
         (beside-sym (c .control) (controlAt chips j) (one-kept k e fair i (chipAt chips j) (formed .apart i j below before))))
 
-    formed-kept : Fair addressed → Formed count after
-    formed-kept fair =
+    -- where no chip clashes with the event, each keeps step with what the line remembers; a chip that is not named stays, and so does the Start
+    heed-now : (o : Addressed) → Fair o → clash (eventOf o) count chips ≡ false → (i : ℕ) → i < placed count → heedsStart (remembers (eventOf o) started) (mine o i .control .phase) ≡ true
+    heed-now (ToAll e) fair calm i below = heeds-kept (chipAt chips i) _ _ _ started (formed .heed i below) e (calm-at e calm i below)
+    heed-now (ToOne k e) fair calm i below =
+        either (λ (x : Stepped × List ℕ × List ℕ). heedsStart (remembers e started) (x .0 .chip .control .phase) ≡ true) (eqb i k) _ _
+        (heeds-kept (chipAt chips i) _ _ _ started (formed .heed i below) e (calm-at e calm i below))
+        (rw (named-remembers e started fair) (formed .heed i below))
+
+    -- an event that is not refused
+    formed-kept : Fair addressed → clash (eventOf addressed) count chips ≡ false → Formed count (remembers (eventOf addressed) started) after
+    formed-kept fair calm =
         record {
           set-up = rw places-stay (formed .set-up);
           fit = λ i below. rw (takes i below) (fit-now i below);
           apart = λ i j below before. rw (controlAt, takes i below, takes j (omega arith)) (apart-now addressed fair i j below before);
+          heed = λ i below. rw (controlAt, takes i below) (heed-now addressed fair calm i below);
         }
 
-    entry-holds-still : Fair addressed → EntryHolds (record { count = count; chips = after; values = valuesAfter addressed count chips values }) (world .1) (world .2)
-    entry-holds-still fair =
+    entry-holds-still : Fair addressed → clash (eventOf addressed) count chips ≡ false
+        → EntryHolds (busWith count (remembers (eventOf addressed) started) after (valuesAfter addressed count chips values)) (world .1) (world .2)
+    entry-holds-still fair calm =
         let (array-long, security-long) = stores-keep-their-length addressed count chips values array security four array-fits security-fits in
-        (of-formed count after (formed-kept fair), rw places-stay (array-long ∙ array-fits), rw places-stay (security-long ∙ security-fits))
+        (of-formed count _ after (formed-kept fair calm), rw places-stay (array-long ∙ array-fits), rw places-stay (security-long ∙ security-fits))
 
     -- and a value of its type, where it was one
     typed-now : Brings addressed → ((i : ℕ) → i < 4 → ChipTyped (chipAt chips i)) → (i : ℕ) → i < 4 → ChipTyped (chipAt after i)
@@ -167,27 +189,27 @@ pub record Kept (bus : Bus) (next : Made) : Type 0 where
 -- one that is played keeps all of it, and one that is refused leaves everything
 pub event-keeps : (bus : Bus) (array security : List ℕ) (word : ℕ) → OfItsType bus → firstOf (entryChecks bus array security) ≡ Passed → Kept bus (event bus array security word)
 unfolding event played
-event-keeps bus array security word typed passed = go (firstOf (eventChecks bus word))
+event-keeps bus array security word typed passed = go (firstOf (eventChecks bus word)) refl
   where
-    go : (verdict : Verdict) → Kept bus (stepBy verdict bus array security word)
-    go Passed =
+    go : (verdict : Verdict) → firstOf (eventChecks bus word) ≡ verdict → Kept bus (stepBy verdict bus array security word)
+    go Passed passes =
         let (formed, array-fits, security-fits) = entry-of bus array security passed in
-        let addressed = addressedOf word in
+        let addressed = addressedOf (bus .started) word in
         let next = played addressed bus array security in
         let four = has-four typed in
-        let clauses = formed-of (bus .count) (bus .chips) formed in
-        let ready = entry-holds-still addressed (bus .count) (bus .chips) (bus .values) array security four array-fits security-fits clauses (addressed-fair word) in
+        let clauses = formed-of (bus .count) (bus .started) (bus .chips) formed in
+        let ready = entry-holds-still addressed (bus .count) (bus .chips) (bus .values) array security four array-fits security-fits (bus .started) clauses (addressed-fair (bus .started) word) (no-clash addressed bus word refl passes) in
         let stays-four = chips-stay-four addressed (bus .count) (bus .chips) (bus .values) array security four array-fits security-fits in
-        let each = typed-now addressed (bus .count) (bus .chips) (bus .values) array security four array-fits security-fits clauses (brings-a-byte word) (chip-typed typed) in
+        let each = typed-now addressed (bus .count) (bus .chips) (bus .values) array security four array-fits security-fits (bus .started) clauses (brings-a-byte (bus .started) word) (chip-typed typed) in
         record {
           enters = of-entry (next .0 .bus) (next .1) (next .2) ready;
-          typed = bus-typed (bus .count) (next .0 .bus .chips) (next .0 .bus .values) (count-fits typed) stays-four
+          typed = bus-typed (bus .count) (next .0 .bus .started) (next .0 .bus .chips) (next .0 .bus .values) (count-fits typed) stays-four
               (every-of ChipTyped (next .0 .bus .chips) noChip (λ i below. each i (omega (arith, below, stays-four))))
               (record {
                 long = values-long-still addressed (bus .count) (bus .chips) (bus .values) (values-typed typed .long);
-                bytes = values-bytes addressed (bus .count) (bus .chips) (bus .values) (brings-a-byte word) (values-typed typed .bytes);
+                bytes = values-bytes addressed (bus .count) (bus .chips) (bus .values) (brings-a-byte (bus .started) word) (values-typed typed .bytes);
               });
           places = places-stay addressed (bus .count) (bus .chips) (bus .values) array security four array-fits security-fits;
           count = refl;
         }
-    go (Refused refusal) = record { enters = passed; typed = typed; places = refl; count = refl }
+    go (Refused refusal) is = record { enters = passed; typed = typed; places = refl; count = refl }

@@ -12,6 +12,7 @@ pub mod Playing
 pub mod Runs
 mod Sent
 pub mod Replies
+pub mod Occupied
 pub mod Odd
 pub mod Bytes
 pub mod Answers

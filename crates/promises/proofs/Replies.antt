@@ -1,5 +1,5 @@
--- What the line answers (paper, event table): to a byte sent 01 if any chip acknowledges, else 00; to a byte read the byte, FF if no chip
--- sends. To a byte sent no chip says a byte, to a byte read only a chip that sends says anything, and at most one sends.
+-- What the line answers (paper, event table): to a byte sent 01 if any chip acknowledges, else 02 (request E8, see Occupied) or 00; to a byte read
+-- the byte, FF if no chip sends. To a byte sent no chip says a byte, to a byte read only a chip that sends says anything, and at most one sends.
 use Prim.Native.Nat.{ℕ, zero, suc, _<_}
 use native.Mathlib.Decide.{decLt}
 use native.Mathlib.Omega.{arith}
@@ -12,7 +12,7 @@ use Rattle.base.proofs.logic.Laws.{and-left, and-both, or-left, or-right}
 use Rattle.base.proofs.Fold.{any-at, any-some}
 use Rattle.control.specs.declared.Control.{Control}
 use Rattle.control.specs.declared.Said.{Said}
-use Rattle.control.specs.declared.Said.the-variants.{Nothing, Ack, Byte}
+use Rattle.control.specs.declared.Said.the-variants.{Nothing, Ack, Occupied, Byte}
 use Rattle.control.specs.Phase.{isSending}
 use Rattle.control.specs.Said.{replyOf}
 use Rattle.chip.specs.declared.Chip.{Chip}
@@ -23,7 +23,7 @@ use Rattle.board.specs.Place.{placed}
 use Rattle.decode.specs.declared.Addressed.the-variants.{ToAll}
 use Rattle.lineup.specs.Chips.{chipAt, controlAt}
 use Rattle.lineup.specs.Wellformed.{wellFormed}
-use Rattle.line.specs.Line.{heard, lineReply}
+use Rattle.line.specs.Line.{unlessSaid, heard, lineReply}
 use Rattle.line.proofs.Deaf.{read-stays}
 use Rattle.promises.specs.Own.{own, gathered}
 use Rattle.promises.proofs.Formed.{formed-of}
@@ -32,23 +32,40 @@ use Rattle.promises.proofs.Sent.{isByte, sent-no-byte}
 abbrev pub isAck : Said → Bool
 isAck Nothing = false
 isAck Ack = true
+isAck Occupied = false
 isAck (Byte byte) = false
 
 is-ack : (said : Said) → isAck said ≡ true → said ≡ Ack
 is-ack Nothing is = absurd (false≢true is)
 is-ack Ack is = refl
+is-ack Occupied is = absurd (false≢true is)
 is-ack (Byte byte) is = absurd (false≢true is)
 
 -- reply 01 is an acknowledge, where it is no byte
 acked : (said : Said) → isByte said ≡ false → replyOf 0 said ≡ 1 → isAck said ≡ true
 acked Nothing other is = absurd (omega arith)
 acked Ack other is = refl
+acked Occupied other is = absurd (omega arith)
 acked (Byte byte) other is = absurd (true≢false other)
 
 pub after-silence : (said : Said) → heard Nothing said ≡ said
 after-silence Nothing = refl
 after-silence Ack = refl
+after-silence Occupied = refl
 after-silence (Byte byte) = refl
+
+-- a chip that says it is busy adds no byte and takes no acknowledge away
+unless-no-byte : (before : Said) → isByte before ≡ false → isByte (unlessSaid before Occupied) ≡ false
+unless-no-byte Nothing is = refl
+unless-no-byte Ack is = refl
+unless-no-byte Occupied is = refl
+unless-no-byte (Byte byte) is = is
+
+unless-acks : (before : Said) → isAck (unlessSaid before Occupied) ≡ isAck before
+unless-acks Nothing = refl
+unless-acks Ack = refl
+unless-acks Occupied = refl
+unless-acks (Byte byte) = refl
 
 -- what a line carries when n chips have spoken
 module _ (says : ℕ → Said) where
@@ -56,7 +73,7 @@ module _ (says : ℕ → Said) where
   carried n = upTo (λ (i : ℕ) (said : Said). heard said (says i)) n Nothing
 
   module _ (no-byte : (i : ℕ) → isByte (says i) ≡ false) where
-    none-carried : (n : ℕ) → isByte (carried n) ≡ false
+    pub none-carried : (n : ℕ) → isByte (carried n) ≡ false
     unfolding upTo
     none-carried zero = refl
     none-carried (suc n) = go (says n) (no-byte n) (none-carried n)
@@ -64,6 +81,7 @@ module _ (says : ℕ → Said) where
         go : (said : Said) → isByte said ≡ false → isByte (carried n) ≡ false → isByte (heard (carried n) said) ≡ false
         go Nothing is earlier = earlier
         go Ack is earlier = refl
+        go Occupied is earlier = unless-no-byte (carried n) earlier
         go (Byte byte) is earlier = is
 
     acks-carried : (n : ℕ) → isAck (carried n) ≡ anyBelow (λ (i : ℕ). isAck (says i)) n
@@ -75,9 +93,10 @@ module _ (says : ℕ → Said) where
             → isAck (heard (carried n) said) ≡ (isAck said || anyBelow (λ (i : ℕ). isAck (says i)) n)
         go Nothing is earlier = earlier
         go Ack is earlier = refl
+        go Occupied is earlier = unless-acks (carried n) ∙ earlier
         go (Byte byte) is earlier = absurd (true≢false is)
 
-  silent-line : (n : ℕ) → ((i : ℕ) → i < n → says i ≡ Nothing) → carried n ≡ Nothing
+  pub silent-line : (n : ℕ) → ((i : ℕ) → i < n → says i ≡ Nothing) → carried n ≡ Nothing
   unfolding upTo
   silent-line zero silent = refl
   silent-line (suc n) silent = rw (silent n (omega arith)) (silent-line n (λ i below. silent i (omega arith)))
@@ -93,18 +112,18 @@ module _ (says : ℕ → Said) where
           let last : n ≡ i = omega arith in
           rw (silent-line n (λ j before. others j (omega arith) (λ (is : j ≡ i). absurd (omega arith))), last) (after-silence (says i))
 
-module _ (byte count : ℕ) (chips : List Chip) (values array security : List ℕ) where
+module _ (first : Bool) (byte count : ℕ) (chips : List Chip) (values array security : List ℕ) where
   abbrev saysTo : ℕ → Said
-  saysTo i = own (ToAll (Sent byte)) chips values array security i .0 .said
+  saysTo i = own (ToAll (Sent first byte)) chips values array security i .0 .said
 
   abbrev acks : ℕ → Bool
   acks i = isAck (saysTo i)
 
   abbrev line : Said
-  line = gathered (ToAll (Sent byte)) count chips values array security
+  line = gathered (ToAll (Sent first byte)) count chips values array security
 
   no-byte : (i : ℕ) → isByte (saysTo i) ≡ false
-  no-byte i = sent-no-byte (chipAt chips i) _ _ _ byte
+  no-byte i = sent-no-byte (chipAt chips i) _ _ _ first byte
 
   line-no-byte : isByte line ≡ false
   line-no-byte = none-carried saysTo no-byte (placed count)
@@ -113,8 +132,8 @@ module _ (byte count : ℕ) (chips : List Chip) (values array security : List �
   line-acks = acks-carried saysTo no-byte (placed count)
 
   pub acknowledged-exactly-when :
-      (lineReply (Sent byte) (gathered (ToAll (Sent byte)) count chips values array security) ≡ 1)
-      ↔ ((i : ℕ) × ((i < placed count) × (own (ToAll (Sent byte)) chips values array security i .0 .said ≡ Ack)))
+      (lineReply (Sent first byte) (gathered (ToAll (Sent first byte)) count chips values array security) ≡ 1)
+      ↔ ((i : ℕ) × ((i < placed count) × (own (ToAll (Sent first byte)) chips values array security i .0 .said ≡ Ack)))
   acknowledged-exactly-when = (to, from)
     where
       to : replyOf 0 line ≡ 1 → (i : ℕ) × ((i < placed count) × (saysTo i ≡ Ack))
@@ -126,13 +145,15 @@ module _ (byte count : ℕ) (chips : List Chip) (values array security : List �
       from (i, (below, here)) = rw (is-ack line (line-acks ∙ any-at acks (placed count) i below (ap isAck here)))
 
   pub else-unanswered :
-      (lineReply (Sent byte) (gathered (ToAll (Sent byte)) count chips values array security) ≡ 1)
-      ⊎ (lineReply (Sent byte) (gathered (ToAll (Sent byte)) count chips values array security) ≡ 0)
+      (lineReply (Sent first byte) (gathered (ToAll (Sent first byte)) count chips values array security) ≡ 1)
+      ⊎ ((lineReply (Sent first byte) (gathered (ToAll (Sent first byte)) count chips values array security) ≡ 2)
+      ⊎ (lineReply (Sent first byte) (gathered (ToAll (Sent first byte)) count chips values array security) ≡ 0))
   else-unanswered = go line line-no-byte
     where
-      go : (said : Said) → isByte said ≡ false → (replyOf 0 said ≡ 1) ⊎ (replyOf 0 said ≡ 0)
-      go Nothing other = inr refl
+      go : (said : Said) → isByte said ≡ false → (replyOf 0 said ≡ 1) ⊎ ((replyOf 0 said ≡ 2) ⊎ (replyOf 0 said ≡ 0))
+      go Nothing other = inr (inr refl)
       go Ack other = inl refl
+      go Occupied other = inr (inl refl)
       go (Byte b) other = absurd (true≢false other)
 
 module _ (nack : Bool) (count : ℕ) (chips : List Chip) (values array security : List ℕ) where
@@ -161,27 +182,27 @@ not-both c d beside sends sends′ =
     active : (c : Control) → isSending (c .phase) ≡ true → isActive c ≡ true
     active c sends = or-right (c .chosen) _ (or-left (isSending (c .phase)) _ sends)
 
-pub at-most-one-sends : (count : ℕ) (chips : List Chip) (i j : ℕ) → wellFormed count chips ≡ true → i < placed count → j < placed count
+pub at-most-one-sends : (count : ℕ) (started : Bool) (chips : List Chip) (i j : ℕ) → wellFormed count started chips ≡ true → i < placed count → j < placed count
     → isSending (controlAt chips i .phase) ≡ true
     → isSending (controlAt chips j .phase) ≡ true
     → i ≡ j
-at-most-one-sends count chips i j formed below below′ sends sends′ = go (decLt j i) (decLt i j)
+at-most-one-sends count started chips i j formed below below′ sends sends′ = go (decLt j i) (decLt i j)
   where
     go : Dec (j < i) → Dec (i < j) → i ≡ j
-    go (yes p) q = absurd (not-both (controlAt chips i) (controlAt chips j) (formed-of count chips formed .apart i j below p) sends sends′)
-    go (no p) (yes q) = absurd (not-both (controlAt chips j) (controlAt chips i) (formed-of count chips formed .apart j i below′ q) sends′ sends)
+    go (yes p) q = absurd (not-both (controlAt chips i) (controlAt chips j) (formed-of count started chips formed .apart i j below p) sends sends′)
+    go (no p) (yes q) = absurd (not-both (controlAt chips j) (controlAt chips i) (formed-of count started chips formed .apart j i below′ q) sends′ sends)
     go (no p) (no q) = omega arith
 
 -- so on a well-formed line a byte read is that of the chip that sends
-pub the-sender-is-heard : (nack : Bool) (count : ℕ) (chips : List Chip) (values array security : List ℕ) (i : ℕ) → wellFormed count chips ≡ true → i < placed count
+pub the-sender-is-heard : (nack : Bool) (count : ℕ) (started : Bool) (chips : List Chip) (values array security : List ℕ) (i : ℕ) → wellFormed count started chips ≡ true → i < placed count
     → isSending (controlAt chips i .phase) ≡ true
     → gathered (ToAll (Read nack)) count chips values array security ≡ own (ToAll (Read nack)) chips values array security i .0 .said
-the-sender-is-heard nack count chips values array security i formed below sends =
+the-sender-is-heard nack count started chips values array security i formed below sends =
     byte-of-the-one-that-sends nack count chips values array security i below sends others
   where
     others : (j : ℕ) → j < placed count → (j ≡ i → ⊥) → isSending (controlAt chips j .phase) ≡ false
     others j before differ = go (isSending (controlAt chips j .phase)) refl
       where
         go : (sending : Bool) → isSending (controlAt chips j .phase) ≡ sending → sending ≡ false
-        go true is = absurd (differ (at-most-one-sends count chips j i formed before below is sends))
+        go true is = absurd (differ (at-most-one-sends count started chips j i formed before below is sends))
         go false is = refl

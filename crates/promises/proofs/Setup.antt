@@ -75,20 +75,21 @@ module _ (count : ℕ) (board : List Place) (array security : List ℕ) (passed 
       let in-range : ltb (placeAt board i .strap) (geometryOf (placeAt board i .part) .straps) ≡ true = not-false _ (any-none (strapOutside board) (placed count) i (none .1 .1 .0) below) in
       fresh-is-well-formed _ _ (and-both _ _ known in-range)
 
-  fresh-formed : Formed count line
+  fresh-formed : Formed count false line
   unfolding boardVerdict
   fresh-formed =
       record {
         set-up = ap firstOf (checks-same count (placesOf line) board place-same) ∙ rw (none .0, none .1 .0, none .1 .1 .0, none .1 .1 .1 .0);
         fit = λ i below. rw (fresh-at i below) (fresh-fits i below);
         apart = λ i j below before. rw (controlAt, fresh-at i below, fresh-at j (omega arith));
+        heed = λ i below. rw (controlAt, fresh-at i below);
       }
 
   fresh-entry : EntryHolds (freshBus count board) array security
   fresh-entry =
       let (array-fits, security-fits) = right-lengths count board (length array) (length security) (none .1 .1 .1 .1 .0) in
       let starts = starts-same count (placesOf line) board place-same in
-      (of-formed count line fresh-formed, array-fits ∙ sym (starts (λ g. g .array)), security-fits ∙ sym (starts (λ g. g .security)))
+      (of-formed count false line fresh-formed, array-fits ∙ sym (starts (λ g. g .array)), security-fits ∙ sym (starts (λ g. g .security)))
 
 pub set-up-is-well-formed : (count : ℕ) (places : List Place) (array security : List ℕ) → setUp count places array security .verdict ≡ Passed
     → firstOf (entryChecks (setUp count places array security .bus) array security) ≡ Passed
@@ -100,6 +101,6 @@ set-up-is-well-formed count board array security passed = go (firstOf (setUpChec
     go Passed is now = of-entry (freshBus count board) array security (fresh-entry count board array security is)
     go (Refused refusal) is now = absurd (false≢true (ap isPassed now))
 
-pub empty-is-not-well-formed : wellFormed (empty .count) (empty .chips) ≡ false
+pub empty-is-not-well-formed : wellFormed (empty .count) (empty .started) (empty .chips) ≡ false
 unfolding wellFormed boardVerdict
 empty-is-not-well-formed = refl

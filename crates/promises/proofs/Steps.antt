@@ -23,7 +23,7 @@ use Rattle.promises.proofs.Formed.{none-holds}
 
 module _ (bus : Bus) (array security : List ℕ) (word : ℕ) (typed : OfItsType bus) (passes : firstOf (stepChecks bus array security word) ≡ Passed) where
   abbrev addressed : Addressed
-  addressed = addressedOf word
+  addressed = addressedOf (bus .started) word
 
   abbrev after : Stepped × List ℕ × List ℕ
   after = step bus array security word

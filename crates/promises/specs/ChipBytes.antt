@@ -4,7 +4,7 @@ use mathlib.Core.List.{List, [], _∷_}
 use Rattle.base.specs.Every.{FitsByte, AllBytes}
 use Rattle.control.specs.declared.Control.{Control}
 use Rattle.control.specs.declared.Said.{Said}
-use Rattle.control.specs.declared.Said.the-variants.{Nothing, Ack, Byte}
+use Rattle.control.specs.declared.Said.the-variants.{Nothing, Ack, Occupied, Byte}
 use Rattle.control.specs.declared.phase.Phase.{Phase}
 use Rattle.control.specs.declared.phase.Phase.the-variants.{Standby, Busy, AwaitsAddress, AwaitsChoice, AwaitsWord, TakesData, SendsByte}
 use Rattle.control.specs.declared.phase.Word.{Word}
@@ -61,13 +61,14 @@ ChipBytes c = ControlBytes (c .control)
 abbrev pub SaidByte : Said → Type 0
 SaidByte Nothing = Unit {0}
 SaidByte Ack = Unit {0}
+SaidByte Occupied = Unit {0}
 SaidByte (Byte byte) = FitsByte byte
 
 -- what the host sends is a byte
 abbrev pub EventByte : Event → Type 0
 EventByte Start = Unit {0}
 EventByte Stop = Unit {0}
-EventByte (Sent byte) = FitsByte byte
+EventByte (Sent first byte) = FitsByte byte
 EventByte (Read nack) = Unit {0}
 EventByte (Wp level) = Unit {0}
 EventByte CycleOver = Unit {0}

@@ -23,7 +23,7 @@ readWord nack = wordOf 4 (cond nack 1 0)
 
 -- F9h and n bytes read, all acknowledged: as events at a chip, and as words on the line
 abbrev pub idEvents : ℕ → List Event
-idEvents n = Sent 0xF9 ∷ replicate n (Read false)
+idEvents n = Sent true 0xF9 ∷ replicate n (Read false)
 
 abbrev pub idWords : ℕ → List ℕ
 idWords n = wordOf 3 0xF9 ∷ replicate n (readWord false)

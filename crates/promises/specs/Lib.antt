@@ -6,3 +6,4 @@ pub mod Bytes
 pub mod Versions
 pub mod Answers
 pub mod Identity
+pub mod Occupied

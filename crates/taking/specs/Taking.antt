@@ -1,7 +1,7 @@
 -- A byte sent by the host, by the phase of the chip that it meets; its load is left aside (paper, "Data", "Configuration" and
 -- "Security register"; sheets 6.1, 6.2, 9.3, 10.3 and 10.4.1).
 use Prim.Native.Nat.{ℕ}
-use mathlib.Core.Bool.{true, cond}
+use mathlib.Core.Bool.{Bool, true, cond}
 use mathlib.Core.List.{List}
 use Rattle.parts.specs.Part.{geometryOf}
 use Rattle.regions.specs.Page.{nextInPage}
@@ -18,7 +18,7 @@ use Rattle.control.specs.declared.phase.Came.{Came}
 use Rattle.control.specs.declared.phase.Came.the-variants.{Zero, One, Two, Three, More}
 use Rattle.control.specs.Control.{arraycounterAt, securitycounterAt}
 use Rattle.control.specs.Said.{acked, silent, stays}
-use Rattle.addressing.specs.Address.{takeAddress, takeChoice}
+use Rattle.addressing.specs.Address.{takeAddress, takeBusy, takeChoice}
 use Rattle.wordaddress.specs.WordAddress.{takeWord}
 
 -- one byte more for the configuration register; past the third they are not kept
@@ -42,18 +42,19 @@ takeData (ToConfiguration came) c byte = acked (TakesData (ToConfiguration (came
 takeData (ToLock some) c byte = takeLockData c
 takeData ToNowhere c byte = acked (TakesData ToNowhere) c
 
--- on standby, busy or sending a chip says nothing and stays as it is
-abbrev pub takeIn : Phase → Control → ℕ → Answered
-takeIn Standby c byte = stays c
-takeIn Busy c byte = stays c
-takeIn AwaitsAddress c byte = takeAddress c byte
-takeIn AwaitsChoice c byte = takeChoice c byte
-takeIn (AwaitsWord word) c byte = takeWord word c byte
-takeIn (TakesData kind) c byte = takeData kind c byte
-takeIn (SendsByte source) c byte = stays c
+-- on standby or sending a chip says nothing and stays as it is; busy it stays too. `first` says that the byte is the first after a
+-- Start (request E8)
+abbrev pub takeIn : Phase → Control → Bool → ℕ → Answered
+takeIn Standby c first byte = stays c
+takeIn Busy c first byte = takeBusy c first byte
+takeIn AwaitsAddress c first byte = takeAddress c byte
+takeIn AwaitsChoice c first byte = takeChoice c byte
+takeIn (AwaitsWord word) c first byte = takeWord word c byte
+takeIn (TakesData kind) c first byte = takeData kind c byte
+takeIn (SendsByte source) c first byte = stays c
 
-unfoldable pub take : Control → ℕ → Answered
-take c byte = takeIn (c .phase) c byte
+unfoldable pub take : Control → Bool → ℕ → Answered
+take c first byte = takeIn (c .phase) c first byte
 
 -- Data: a byte for the array or the security register is loaded at its counter's place; nothing is stored yet. Lock data on a
 -- locked page ends the exchange, and any load with it. What is loaded after a byte sent:

@@ -1,6 +1,7 @@
 // A chip that takes bytes: what a byte sent by the host does to it, its load left aside (paper, "Data", "Configuration" and
 // "Security register").
 use addressing::take_address;
+use addressing::take_busy;
 use addressing::take_choice;
 use control::Answered;
 use control::Control;
@@ -60,14 +61,14 @@ fn take_data(kind: Data, c: Control, byte: u8) -> Answered
     }
 }
 
-// A byte sent, by the phase that it meets. A chip on standby, busy or sending says nothing and stays.
-pub fn take(c: Control, byte: u8) -> Answered
-    ensures { λ r. ⌜ r ≡ take c byte ⌝ }
+// A byte sent, by the phase that it meets; `first` after a Start or not. A chip on standby or sending says nothing and stays.
+pub fn take(c: Control, first: bool, byte: u8) -> Answered
+    ensures { λ r. ⌜ r ≡ take c first byte ⌝ }
 {
     let phase = c.phase;
     match phase {
         Phase::Standby => c.stays(),
-        Phase::Busy => c.stays(),
+        Phase::Busy => take_busy(c, first, byte),
         Phase::AwaitsAddress => take_address(c, byte),
         Phase::AwaitsChoice => take_choice(c, byte),
         Phase::AwaitsWord(word) => take_word(word, c, byte),

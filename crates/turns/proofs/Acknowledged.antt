@@ -4,8 +4,7 @@ use Prim.Native.Nat.{ℕ, zero, suc, _<_}
 use native.Mathlib.Omega.{arith}
 use mathlib.Core.Bool.{Bool, true, false, cond, not, false≢true}
 use mathlib.Core.List.{List, [], _∷_}
-use mathlib.Core.Logic.{_⊎_, inl, inr}
-use mathlib.Core.Path.{_≡_, _∙_, refl, sym, ap}
+use mathlib.Core.Path.{_≡_, _∙_, refl, ap}
 use lib.ListN.{getD, take}
 use borrow.Author.Tests.{not-true, not-false}
 use Rattle.base.specs.Fold.{anyBelow}
@@ -16,6 +15,7 @@ use Rattle.control.specs.declared.Said.{Said}
 use Rattle.control.specs.declared.Said.the-variants.{Nothing, Ack}
 use Rattle.control.specs.Phase.{isBusy, isSending}
 use Rattle.chip.specs.declared.Chip.{Chip}
+use Rattle.chip.specs.declared.event.Event.{Event}
 use Rattle.chip.specs.declared.event.Event.the-variants.{Start, Sent}
 use Rattle.refusal.specs.declared.Verdict.the-variants.{Passed}
 use Rattle.refusal.specs.Refusal.{answerWord}
@@ -29,7 +29,7 @@ use Rattle.bus.proofs.Typed.{has-four}
 use Rattle.promises.specs.Own.{own, gathered}
 use Rattle.promises.specs.Playing.{World, Made, afterOne, answerTo, after, answersTo}
 use Rattle.promises.proofs.Chips.{answer-is-gathered}
-use Rattle.promises.proofs.Replies.{isAck, acknowledged-exactly-when, else-unanswered}
+use Rattle.promises.proofs.Replies.{silent-line, acknowledged-exactly-when}
 use Rattle.turns.specs.Turn.{isStart, isF8}
 use Rattle.turns.specs.Shuffle.{isExcepted}
 use Rattle.turns.specs.Alone.{alone}
@@ -58,44 +58,45 @@ module _ (world : World) (e : Entering world) (heeding : (i : ℕ) → i < world
   abbrev free : ℕ → Bool
   free i = not (isBusy (controlAt chips i .phase))
 
-  says : (i : ℕ) → i < placed count → own (ToAll (Sent 0xF8)) chips (world .0 .values) (world .1) (world .2) i .0 .said ≡ cond (isBusy (controlAt chips i .phase)) Nothing Ack
-  says i below = f8-said (chipAt chips i) _ _ _ (heeding i (omega (arith, entry .all-placed)))
+  -- F8h, whether a Start is remembered or none
+  abbrev f8 : Event
+  f8 = Sent (world .0 .started) 0xF8
 
-  abbrev reply : ℕ
-  reply = lineReply (Sent 0xF8) (gathered (ToAll (Sent 0xF8)) count chips (world .0 .values) (world .1) (world .2))
+  abbrev saidBy : ℕ → Said
+  saidBy i = own (ToAll f8) chips (world .0 .values) (world .1) (world .2) i .0 .said
 
-  -- 01 where a chip is free, and where none is no chip acknowledges
-  reply-is : (some : Bool) → anyBelow free (placed count) ≡ some → reply ≡ cond some 0x01 0x00
+  says : (i : ℕ) → i < placed count → saidBy i ≡ cond (isBusy (controlAt chips i .phase)) Nothing Ack
+  says i below = f8-said (chipAt chips i) _ _ _ (world .0 .started) (heeding i (omega (arith, entry .all-placed)))
+
+  -- 01 where a chip is free, and where none is every chip is silent
+  reply-is : (some : Bool) → anyBelow free (placed count) ≡ some
+      → lineReply f8 (gathered (ToAll f8) count chips (world .0 .values) (world .1) (world .2)) ≡ cond some 0x01 0x00
   reply-is true is =
       let (i, (below, here)) = any-some free (placed count) is in
       let idle : isBusy (controlAt chips i .phase) ≡ false = not-true _ here in
-      acknowledged-exactly-when 0xF8 count chips (world .0 .values) (world .1) (world .2) .1 (i, (below, says i below ∙ rw idle))
-  reply-is false is = go (else-unanswered 0xF8 count chips (world .0 .values) (world .1) (world .2))
-    where
-      go : (reply ≡ 1) ⊎ (reply ≡ 0) → reply ≡ 0x00
-      go (inl one) =
-          let (i, (below, acked)) = acknowledged-exactly-when 0xF8 count chips (world .0 .values) (world .1) (world .2) .0 one in
-          let busy : isBusy (controlAt chips i .phase) ≡ true = not-false _ (any-none free (placed count) i is below) in
-          absurd (false≢true (ap isAck (rw busy at (sym (says i below) ∙ acked))))
-      go (inr none) = none
+      acknowledged-exactly-when (world .0 .started) 0xF8 count chips (world .0 .values) (world .1) (world .2) .1 (i, (below, says i below ∙ rw idle))
+  reply-is false is =
+      ap (lineReply f8)
+      (silent-line saidBy (placed count) λ i below.
+      let busy : isBusy (controlAt chips i .phase) ≡ true = not-false _ (any-none free (placed count) i is below) in says i below ∙ rw busy)
 
-  calm : lineVerdict (ToAll (Sent 0xF8)) world ≡ Passed
+  calm : lineVerdict (ToAll f8) world ≡ Passed
   calm =
-      to-all-passes world (Sent 0xF8)
+      to-all-passes world f8
       (none-any (λ (i : ℕ). isSending (controlAt chips i .phase)) (placed count) (λ i below. heeding-sends-nothing (controlAt chips i .phase) (heeding i (omega (arith, entry .all-placed)))))
 
   f8-answered : (word : ℕ) → isF8 word ≡ true → answerTo step world word ≡ acknowledge (world .0)
   unfolding played
   f8-answered word is =
-      ap (λ (made : Made). answerWord (made .0 .answer)) (step-plays world word (ToAll (Sent 0xF8)) e (f8-asks count word is .0) calm)
-      ∙ ap (λ (said : Said). wordOf 0 (lineReply (Sent 0xF8) said)) (answer-is-gathered (ToAll (Sent 0xF8)) count chips (world .0 .values) (world .1) (world .2) (has-four (e .typed)) (entry .array-fits) (entry .security-fits))
+      ap (λ (made : Made). answerWord (made .0 .answer)) (step-plays world word (ToAll f8) e (f8-asks (world .0 .started) count word is .0) calm)
+      ∙ ap (λ (said : Said). wordOf 0 (lineReply f8 said)) (answer-is-gathered (ToAll f8) count chips (world .0 .values) (world .1) (world .2) (has-four (e .typed)) (entry .array-fits) (entry .security-fits))
       ∙ ap (λ (byte : ℕ). wordOf 0 byte) (reply-is (anyBelow free (placed count)) refl)
 
 -- a Start leaves such a bus
 start-leaves : (world : World) (word : ℕ) → Entering world → isStart word ≡ true
     → (i : ℕ) → i < afterOne step world word .0 .count → isHeeding (controlAt (afterOne step world word .0 .chips) i .phase) ≡ true
 start-leaves world word e is i below =
-    let legal = start-asks (world .0 .count) word is .0 in
+    let legal = start-asks (world .0 .started) (world .0 .count) word is .0 in
     let calm : lineVerdict (ToAll Start) world ≡ Passed = to-all-passes world Start (none-any (λ (i : ℕ). false) (placed (world .0 .count)) (λ i below. refl)) in
     ap (λ (w : World). isHeeding (controlAt (w .0 .chips) 0 .phase)) (each-moves world word (ToAll Start) e legal calm i (omega (arith, below, count-kept world word (ToAll Start) e legal)))
     ∙ start-heeds (chipAt (world .0 .chips) i) (world .0 .values) (alone i world .1) (alone i world .2)

@@ -36,7 +36,7 @@ use Rattle.decode.specs.Decode.{reaches, eventOf}
 use Rattle.lineup.specs.Chips.{chipAt, placesOf}
 use Rattle.lineup.proofs.Laws.{place-at}
 use Rattle.line.specs.Line.{heard, play}
-use Rattle.bus.specs.Step.{entryChecks}
+use Rattle.bus.specs.Step.{entryChecks, busWith}
 use Rattle.bus.proofs.Entry.{Entered, entered}
 use Rattle.promises.specs.Playing.{World}
 use Rattle.promises.proofs.Formed.{Formed, formed-of, of-formed, of-entry}
@@ -81,13 +81,13 @@ held-same c values array security event = go (isLoading c) refl
     go true is = refl
     go false is = unloaded-blind c noValues values array security event (not-false _ is)
 
-pub only-unloaded : (c : Chip) (values : List ℕ) → isLoading c ≡ false → onlyBus c values ≡ onlyBus c noValues
-only-unloaded c values none = rw none
+pub only-unloaded : (started : Bool) (c : Chip) (values : List ℕ) → isLoading c ≡ false → onlyBus started c values ≡ onlyBus started c noValues
+only-unloaded started c values none = rw none
 
 -- all that it has can be seen
 pub alone-seen : (k : ℕ) (world : World) → seen (alone k world) ≡ alone k world
 unfolding upTo
-alone-seen k world = ap (λ (values : List ℕ). (record { count = 1; chips = onlyChips (chipAt (world .0 .chips) k); values = values }, alone k world .1, alone k world .2)) (twice (isLoading (chipAt (world .0 .chips) k)))
+alone-seen k world = ap (λ (values : List ℕ). (busWith 1 (world .0 .started) (onlyChips (chipAt (world .0 .chips) k)) values, alone k world .1, alone k world .2)) (twice (isLoading (chipAt (world .0 .chips) k)))
   where
     twice : (loading : Bool) → cond (loading || false) (cond loading (world .0 .values) noValues) noValues ≡ cond loading (world .0 .values) noValues
     twice true = refl
@@ -120,8 +120,8 @@ module _ (world : World) (enters : firstOf (entryChecks (world .0) (world .1) (w
   pub shares-fit : Fits (chipAt (world .0 .chips) k) (alone k world .1) (alone k world .2)
   shares-fit = (share-long (λ g. g .array) (world .1) (entry .array-fits), share-long (λ g. g .security) (world .2) (entry .security-fits))
 
-  formed : Formed (world .0 .count) chips
-  formed = formed-of (world .0 .count) chips (entry .formed)
+  formed : Formed (world .0 .count) (world .0 .started) chips
+  formed = formed-of (world .0 .count) (world .0 .started) chips (entry .formed)
 
   fit : own.wellFormed c ≡ true
   fit = formed .fit k (omega (arith, entry .all-placed))
@@ -136,11 +136,12 @@ module _ (world : World) (enters : firstOf (entryChecks (world .0) (world .1) (w
   unfolding upTo placesOf
   alone-enters =
       of-entry (alone k world .0) (alone k world .1) (alone k world .2) (
-        of-formed 1 (onlyChips c) (
+        of-formed 1 (world .0 .started) (onlyChips c) (
             record {
               set-up = set-up;
               fit = λ i first. let is : i ≡ 0 = omega arith in rw is fit;
               apart = λ i j first before. absurd (omega arith);
+              heed = λ i first. let is : i ≡ 0 = omega arith in rw is (formed .heed k (omega (arith, entry .all-placed)));
             }
             ),
         shares-fit .0 ∙ sym (zero-add _),

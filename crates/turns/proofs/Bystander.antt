@@ -1,8 +1,8 @@
 -- A chip at rest sits through another's turn: a Start wakes it, and F8h keeps it awake, but the address byte that follows is another's, or
--- F9h while it is not chosen, so it goes back to standby as it was. Of the rest it takes no notice.
+-- F9h while it is not chosen, so it goes back to standby as it was, and a busy one says nothing. Of the rest it takes no notice.
 use Prim.Native.Nat.{ℕ, _/_, _%_, _<_, _≤_}
 use native.Mathlib.Omega.{arith}
-use mathlib.Core.Bool.{Bool, true, false, cond, not, _&&_, _||_, false≢true}
+use mathlib.Core.Bool.{Bool, true, false, cond, not, _&&_, _||_, or-false, false≢true}
 use mathlib.Core.List.{List}
 use mathlib.Core.Path.{_≡_, _∙_, refl, sym, ap}
 use lib.Dec.{eqb, leb}
@@ -23,7 +23,7 @@ use Rattle.control.specs.Control.{inPhase, choosing}
 use Rattle.control.proofs.phase.Laws.{resting-is}
 use Rattle.addressing.specs.declared.Call.{Call}
 use Rattle.addressing.specs.declared.Call.the-variants.{HostF9, Nobody}
-use Rattle.addressing.specs.Address.{callOf, takeCall, takeAddress, takeChoice}
+use Rattle.addressing.specs.Address.{callOf, isNamed, names, takeCall, takeAddress, takeBusy, takeChoice}
 use Rattle.taking.specs.Taking as taking
 use Rattle.cycle.specs.Stop as cycle
 use Rattle.chip.specs.declared.Chip.{Chip}
@@ -147,8 +147,8 @@ module _ (c : Chip) (rest : isAtRest c ≡ true) where
   unpicked : dropped c ≡ c
   unpicked = ap (λ (picked : Bool). record { control = choosing picked (c .control); span = c .span }) (sym unchosen)
 
-  pub passes-byte : (v a s : List ℕ) (byte : ℕ) → step c v a s (Sent byte) ≡ (quiet c, a, s)
-  passes-byte v a s byte = sent-stays c v a s byte takes-nothing
+  pub passes-byte : (v a s : List ℕ) (byte : ℕ) → step c v a s (Sent false byte) ≡ (quiet c, a, s)
+  passes-byte v a s byte = sent-stays c v a s false byte (or-false _ ∙ takes-nothing)
 
   pub passes-read : (v a s : List ℕ) (nack : Bool) → step c v a s (Read nack) ≡ (quiet c, a, s)
   passes-read v a s nack = read-stays c v a s nack sends-nothing
@@ -162,36 +162,43 @@ module _ (c : Chip) (rest : isAtRest c ≡ true) where
       ended ∙ ap (λ (d : Chip). (quiet d, a, s)) (ap (woken Standby) unpicked ∙ asleep standby))
       (λ busy. rw busy)
 
-  -- a byte that it awaits: a busy chip takes no notice, and one on standby has been woken
-  hears-awaited : (phase : Phase) (v a s : List ℕ) (byte : ℕ) (after : Stepped)
-      → (c .control .phase ≡ Standby → take (woken phase c) byte ≡ after) → (c .control .phase ≡ Busy → quiet c ≡ after)
-      → step (awaiting phase c) v a s (Sent byte) ≡ (after, a, s)
-  unfolding step
-  hears-awaited phase v a s byte after on-standby on-busy =
-      two-ways (step (awaiting phase c) v a s (Sent byte) ≡ (after, a, s))
+  -- a byte to which it says that it is busy, where it is
+  abbrev occupies : Bool → ℕ → Bool
+  occupies first byte = first && names byte (c .control)
+
+  -- another, that it awaits: a busy chip takes no notice, and one on standby has been woken
+  hears-awaited : (phase : Phase) (v a s : List ℕ) (first : Bool) (byte : ℕ) (after : Stepped) → occupies first byte ≡ false
+      → (c .control .phase ≡ Standby → take (woken phase c) first byte ≡ after) → (c .control .phase ≡ Busy → quiet c ≡ after)
+      → step (awaiting phase c) v a s (Sent first byte) ≡ (after, a, s)
+  unfolding step taking.take taking.spanAfter takeBusy
+  hears-awaited phase v a s first byte after unnamed on-standby on-busy =
+      two-ways (step (awaiting phase c) v a s (Sent first byte) ≡ (after, a, s))
       (λ standby. rw standby (ap (λ (x : Stepped). (x, a, s)) (on-standby standby)))
       (λ busy.
       let same : awaiting phase c ≡ c = rw busy in
-      ap (λ (d : Chip). step d v a s (Sent byte)) same ∙ passes-byte v a s byte ∙ ap (λ (x : Stepped). (x, a, s)) (on-busy busy))
+      let stays : take c first byte ≡ quiet c = rw (busy, unnamed) in
+      ap (λ (d : Chip). step d v a s (Sent first byte)) same ∙ ap (λ (x : Stepped). (x, a, s)) (stays ∙ on-busy busy))
 
-  passes : (phase : Phase) (v a s : List ℕ) (byte : ℕ) → take (woken phase c) byte ≡ quiet (woken Standby c)
-      → step (awaiting phase c) v a s (Sent byte) ≡ (quiet c, a, s)
-  passes phase v a s byte is = hears-awaited phase v a s byte (quiet c) (λ standby. is ∙ ap quiet (asleep standby)) (λ busy. refl)
+  passes : (phase : Phase) (v a s : List ℕ) (first : Bool) (byte : ℕ) → occupies first byte ≡ false → take (woken phase c) first byte ≡ quiet (woken Standby c)
+      → step (awaiting phase c) v a s (Sent first byte) ≡ (quiet c, a, s)
+  passes phase v a s first byte unnamed is =
+      hears-awaited phase v a s first byte (quiet c) unnamed (λ standby. is ∙ ap quiet (asleep standby)) (λ busy. refl)
 
   pub hears-f8 : (v a s : List ℕ)
-      → step (whileAnothersTurn AddressByte c) v a s (Sent 0xF8) ≡ (record { chip = whileAnothersTurn ChoiceByte c; said = cond (isBusy (c .control .phase)) Nothing Ack }, a, s)
+      → step (whileAnothersTurn AddressByte c) v a s (Sent true 0xF8) ≡ (record { chip = whileAnothersTurn ChoiceByte c; said = cond (isBusy (c .control .phase)) Nothing Ack }, a, s)
   unfolding taking.take taking.spanAfter takeAddress callOf
   hears-f8 v a s =
-      hears-awaited AwaitsAddress v a s 0xF8 _
+      hears-awaited AwaitsAddress v a s true 0xF8 _ refl
       (λ standby. rw standby (ap (λ (d : Chip). record { chip = woken AwaitsChoice d; said = Ack }) unpicked))
       (λ busy. rw busy)
 
   module _ (v a s : List ℕ) (place : Place) (byte : ℕ)
       (unshared : shareAddress (geometryOf (place .part)) (place .strap) (geometryOf (c .control .part)) (c .control .strap) ≡ false) where
-    pub passes-first : isFirstByte place byte ≡ true → step (whileAnothersTurn AddressByte c) v a s (Sent byte) ≡ (quiet c, a, s)
+    pub passes-first : isFirstByte place byte ≡ true → step (whileAnothersTurn AddressByte c) v a s (Sent true byte) ≡ (quiet c, a, s)
     unfolding taking.take taking.spanAfter takeAddress
     passes-first is =
-        passes AwaitsAddress v a s byte
+        passes AwaitsAddress v a s true byte
+        (first-called c place unshared (λ (call : Call). isNamed call ≡ false) byte is refl refl)
         (first-called c place unshared (λ (call : Call). heard (takeCall call (inPhase AwaitsAddress (c .control))) ≡ quiet (woken Standby c)) byte is
         (rw unchosen)
         (ap (λ (d : Chip). quiet (woken Standby d)) unpicked))
@@ -199,14 +206,14 @@ module _ (c : Chip) (rest : isAtRest c ≡ true) where
         heard : Answered → Stepped
         heard answered = record { chip = record { control = answered .control; span = span.dropped (c .span) }; said = answered .said }
 
-    pub passes-choice : isAddressOf 0b1010 place byte ≡ true → step (whileAnothersTurn ChoiceByte c) v a s (Sent byte) ≡ (quiet c, a, s)
+    pub passes-choice : isAddressOf 0b1010 place byte ≡ true → step (whileAnothersTurn ChoiceByte c) v a s (Sent false byte) ≡ (quiet c, a, s)
     unfolding taking.take taking.spanAfter takeChoice
-    passes-choice is = passes AwaitsChoice v a s byte (rw (address-for-nobody c place unshared 0b1010 byte (omega arith) is))
+    passes-choice is = passes AwaitsChoice v a s false byte refl (rw (address-for-nobody c place unshared 0b1010 byte (omega arith) is))
 
   pub rest-clashes : (event : Event) → clashesWith event (c .control .phase) ≡ false
   rest-clashes Start = refl
   rest-clashes Stop = refl
-  rest-clashes (Sent byte) = sends-nothing
+  rest-clashes (Sent first byte) = sends-nothing
   rest-clashes (Read nack) = takes-nothing
   rest-clashes (Wp level) = refl
   rest-clashes CycleOver = refl

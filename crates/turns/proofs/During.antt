@@ -1,5 +1,5 @@
 -- A turn of chip k in progress. The other chips are as they were when it began, but that they hear a Start and F8h and await the byte that
--- follows at once; an event of the turn moves k as it moves it alone on the line.
+-- follows at once; an event of the turn moves k as it moves it alone on the line. A Start is remembered until that byte has come.
 use Prim.Native.Nat.{ℕ, zero, suc, _<_, _≤_}
 use native.Mathlib.Omega.{arith}
 use mathlib.Core.Bool.{Bool, true, false, cond, _&&_, true≢false}
@@ -27,7 +27,7 @@ use Rattle.decode.specs.Hearing.{clashesWith}
 use Rattle.lineup.specs.Chips.{chipAt, controlAt, placesOf}
 use Rattle.line.specs.Line.{chipLoads, valuesAfter}
 use Rattle.bus.specs.declared.Bus.{Bus}
-use Rattle.bus.specs.Step.{step}
+use Rattle.bus.specs.Step.{remembers, step}
 use Rattle.promises.specs.Own.{own}
 use Rattle.promises.specs.Playing.{World, ledTo, afterOne, answerTo, after, answersTo}
 use Rattle.promises.proofs.Keeping.Values.{unloaded-blind, no-load-no-values}
@@ -51,14 +51,21 @@ Heeds Anything phase = Unit {0}
 Heeds AddressByte phase = isHeeding phase ≡ true
 Heeds ChoiceByte phase = isSending phase ≡ false
 
+-- a Start is remembered where the byte that follows it at once has not come yet
+abbrev pub startedAt : Next → Bool
+startedAt Anything = false
+startedAt AddressByte = true
+startedAt ChoiceByte = false
+
 pub record During (k : ℕ) (next : Next) (began now : World) : Type 0 where
   pub entering : Entering now
   pub count : now .0 .count ≡ began .0 .count
   pub board : placesOf (now .0 .chips) ≡ placesOf (began .0 .chips)
   pub rest : (i : ℕ) → began .0 .count ≤ i → chipAt (now .0 .chips) i ≡ chipAt (began .0 .chips) i
+  pub started : now .0 .started ≡ startedAt next
   pub heeds : Heeds next (controlAt (now .0 .chips) k .phase)
   pub others : (j : ℕ) → j < began .0 .count → (j ≡ k → ⊥)
-      → alone j now ≡ (onlyBus (whileAnothersTurn next (chipAt (began .0 .chips) j)) noValues, alone j began .1, alone j began .2)
+      → alone j now ≡ (onlyBus (startedAt next) (whileAnothersTurn next (chipAt (began .0 .chips) j)) noValues, alone j began .1, alone j began .2)
 
 -- which answer to the rest of a turn is excepted; `started` says whether a Start has come just before
 abbrev pub excepted : Bool → List ℕ → ℕ → Bool
@@ -117,11 +124,11 @@ abbrev pub SitsThrough : Addressed → Next → Next → (Chip → Said) → ℕ
 SitsThrough addressed next next′ says j began =
     let c = chipAt (began .0 .chips) j in
     (clashesWith (eventOf addressed) (whileAnothersTurn next c .control .phase) ≡ false)
-    × (takes addressed j (onlyBus (whileAnothersTurn next c) noValues, alone j began .1, alone j began .2) ≡ (record { chip = whileAnothersTurn next′ c; said = says c }, alone j began .1, alone j began .2))
+    × (takes addressed j (onlyBus (startedAt next) (whileAnothersTurn next c) noValues, alone j began .1, alone j began .2) ≡ (record { chip = whileAnothersTurn next′ c; said = says c }, alone j began .1, alone j began .2))
     × ((n : Next) → isLoading (whileAnothersTurn n c) ≡ false)
 
--- an event of the turn, which the others sit through
-module _ (k : ℕ) (next next′ : Next) (began now : World) (below : k < began .0 .count) (d : During k next began now) (word : ℕ) (addressed : Addressed) (asked : Asked (now .0 .count) word addressed) (reached : reaches addressed k ≡ true) (says : Chip → Said)
+-- an event of the turn, which the others sit through, and after which a Start is remembered or not as what must come next has it
+module _ (k : ℕ) (next next′ : Next) (began now : World) (below : k < began .0 .count) (d : During k next began now) (word : ℕ) (addressed : Addressed) (asked : Asked (startedAt next) (now .0 .count) word addressed) (reached : reaches addressed k ≡ true) (remembered : remembers (eventOf addressed) (startedAt next) ≡ startedAt next′) (says : Chip → Said)
     (sit : (j : ℕ) → j < began .0 .count → (j ≡ k → ⊥) → SitsThrough addressed next next′ says j began) where
   abbrev chips : List Chip
   chips = now .0 .chips
@@ -135,6 +142,12 @@ module _ (k : ℕ) (next next′ : Next) (began now : World) (below : k < began 
 
   below-now : k < now .0 .count
   below-now = omega (arith, below, d .count)
+
+  asked-now : Asked (now .0 .started) (now .0 .count) word addressed
+  asked-now = rw (d .started) asked
+
+  remembered-now : remembers (eventOf addressed) (now .0 .started) ≡ startedAt next′
+  remembered-now = ap (remembers (eventOf addressed)) (d .started) ∙ remembered
 
   unclashing : (j : ℕ) → j < now .0 .count → (j ≡ k → ⊥) → clashesWith (eventOf addressed) (controlAt chips j .phase) ≡ false
   unclashing j before differ =
@@ -168,15 +181,15 @@ module _ (k : ℕ) (next next′ : Next) (began now : World) (below : k < began 
       go false is = refl
 
   turn-verdict : lineVerdict addressed now ≡ ownVerdict
-  turn-verdict = verdict-is-its-own now (d .entering) k below-now word addressed asked reached unclashing
+  turn-verdict = verdict-is-its-own now (d .entering) k below-now word addressed asked-now reached unclashing
 
   stays-as-it-is : (refusal : Refusal) → lineVerdict addressed now ≡ Refused refusal → afterOne step now word ≡ now
-  stays-as-it-is refusal is = ap ledTo (step-refused now word addressed (d .entering) (asked .0) refusal is)
+  stays-as-it-is refusal is = ap ledTo (step-refused now word addressed (d .entering) (asked-now .0) refusal is)
 
   -- k itself has made its own step
   turn-taken : lineVerdict addressed now ≡ Passed → chipAt (afterOne step now word .0 .chips) k ≡ taken .0 .chip
   turn-taken is =
-      ap (λ (w : World). chipAt (w .0 .chips) 0) (each-moves now word addressed (d .entering) (asked .0) is k below-now) ∙ rw reached
+      ap (λ (w : World). chipAt (w .0 .chips) 0) (each-moves now word addressed (d .entering) (asked-now .0) is k below-now) ∙ rw reached
 
   -- it may be refused only where the next event may be anything
   turn-goes-on : ((refusal : Refusal) → ownVerdict ≡ Refused refusal → next ≡ next′) → Heeds next′ (taken .0 .chip .control .phase) → During k next′ began (afterOne step now word)
@@ -189,14 +202,16 @@ module _ (k : ℕ) (next next′ : Next) (began now : World) (below : k < began 
       go Passed is =
           record {
             entering = entering-kept now word (d .entering);
-            count = count-kept now word addressed (d .entering) (asked .0) ∙ d .count;
-            board = board-kept now word addressed (d .entering) (asked .0) ∙ d .board;
-            rest = λ i past. rest-kept now word addressed (d .entering) (asked .0) i (omega (arith, past, d .count)) ∙ d .rest i past;
+            count = count-kept now word addressed (d .entering) (asked-now .0) ∙ d .count;
+            board = board-kept now word addressed (d .entering) (asked-now .0) ∙ d .board;
+            rest = λ i past. rest-kept now word addressed (d .entering) (asked-now .0) i (omega (arith, past, d .count)) ∙ d .rest i past;
+            started = ap (λ (w : World). w .0 .started) (each-moves now word addressed (d .entering) (asked-now .0) is k below-now) ∙ remembered-now;
             heeds = subst (λ (c : Chip). Heeds next′ (c .control .phase)) (sym (turn-taken is)) heeding;
             others = λ j before differ.
-                each-moves now word addressed (d .entering) (asked .0) is j (omega (arith, before, d .count))
-                ∙ ap (λ (x : Stepped × List ℕ × List ℕ). (onlyBus (x .0 .chip) (valuesAfter addressed (now .0 .count) (now .0 .chips) (now .0 .values)), x .1, x .2)) (sat j before differ)
-                ∙ ap (λ (bus : Bus). (bus, alone j began .1, alone j began .2)) (only-unloaded _ _ (sit j before differ .2 next′));
+                each-moves now word addressed (d .entering) (asked-now .0) is j (omega (arith, before, d .count))
+                ∙ ap (λ (x : Stepped × List ℕ × List ℕ). (onlyBus (remembers (eventOf addressed) (now .0 .started)) (x .0 .chip) (valuesAfter addressed (now .0 .count) (now .0 .chips) (now .0 .values)), x .1, x .2)) (sat j before differ)
+                ∙ ap (λ (bus : Bus). (bus, alone j began .1, alone j began .2)) (only-unloaded _ _ _ (sit j before differ .2 next′))
+                ∙ ap (λ (started : Bool). (onlyBus started (whileAnothersTurn next′ (chipAt (began .0 .chips) j)) noValues, alone j began .1, alone j began .2)) remembered-now;
           }
 
   -- k is at rest where it was so and the event is refused, or its own step leaves it so
@@ -215,9 +230,9 @@ module _ (k : ℕ) (next next′ : Next) (began now : World) (below : k < began 
         → Went k started (word ∷ more) began now
     event-goes more later refusable heeding =
         went-on k started word more began now
-        (by-itself now (d .entering) k below-now word addressed asked reached unclashing)
-        (alone-moves now (d .entering) k below-now word addressed asked reached unclashing unloading)
-        (λ none. answers-alike now (d .entering) k below-now word addressed asked reached unclashing λ j before differ.
+        (by-itself now (d .entering) k below-now word addressed asked-now reached unclashing)
+        (alone-moves now (d .entering) k below-now word addressed asked-now reached unclashing unloading)
+        (λ none. answers-alike now (d .entering) k below-now word addressed asked-now reached unclashing λ j before differ.
         ap (λ (x : Stepped × List ℕ × List ℕ). x .0 .said) (sat j (omega (arith, before, d .count)) differ) ∙ usual none _)
         (later (turn-goes-on refusable heeding))
 

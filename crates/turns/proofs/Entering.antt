@@ -1,7 +1,7 @@
--- A bus that is a value of its type and passes the checks at entry: every step leads from such a bus to such a bus. And one that is idle too:
--- so does every turn.
+-- A bus that is a value of its type and passes the checks at entry: every step leads from such a bus to such a bus. And one that is idle and remembers
+-- no Start: so does every turn.
 use Prim.Native.Nat.{ℕ}
-use mathlib.Core.Bool.{true}
+use mathlib.Core.Bool.{true, false}
 use mathlib.Core.List.{List, [], _∷_}
 use mathlib.Core.Path.{_≡_}
 use Rattle.refusal.specs.declared.Verdict.the-variants.{Passed}
@@ -30,9 +30,10 @@ entering-after (word ∷ more) world e = entering-after more (afterOne step worl
 pub record Idling (world : World) : Type 0 where
   pub entering : Entering world
   pub idle : isIdle (world .0) ≡ true
+  pub forgot : world .0 .started ≡ false
 
-pub idling : {world : World} → OfItsType (world .0) → Ready world → Idling world
-idling typed ready = record { entering = record { typed = typed; enters = ready .enters }; idle = ready .idle }
+pub idling : {world : World} → OfItsType (world .0) → Ready world → world .0 .started ≡ false → Idling world
+idling typed ready forgot = record { entering = record { typed = typed; enters = ready .enters }; idle = ready .idle; forgot = forgot }
 
 pub ready-of : {world : World} → Idling world → OfItsType (world .0) × Ready world
 ready-of waits = (waits .entering .typed, record { enters = waits .entering .enters; idle = waits .idle })

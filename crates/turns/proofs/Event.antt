@@ -31,7 +31,7 @@ use Rattle.decode.specs.Hearing.{lacksCycle, clashesWith}
 use Rattle.lineup.specs.Chips.{chipAt, controlAt}
 use Rattle.line.specs.Line.{notBusy, clash, play, chipLoads, valuesAfter, lineReply}
 use Rattle.bus.specs.declared.Stepped.{Stepped}
-use Rattle.bus.specs.Step.{refused, played, step}
+use Rattle.bus.specs.Step.{busWith, remembers, refused, played, step}
 use Rattle.bus.proofs.Entry.{Entered, entered}
 use Rattle.bus.proofs.Typed.{has-four}
 use Rattle.promises.specs.Own.{own}
@@ -74,7 +74,7 @@ pub calm-alone : (k : ℕ) (world : World) (event : Event) → clashesWith event
 unfolding upTo
 calm-alone k world event calm = to-all-passes (alone k world) event (or-false _ ∙ calm)
 
-module _ (world : World) (e : Entering world) (k : ℕ) (below : k < world .0 .count) (word : ℕ) (addressed : Addressed) (asked : Asked (world .0 .count) word addressed) (reached : reaches addressed k ≡ true) (unclashing : (j : ℕ) → j < world .0 .count → (j ≡ k → ⊥) → clashesWith (eventOf addressed) (controlAt (world .0 .chips) j .phase) ≡ false) where
+module _ (world : World) (e : Entering world) (k : ℕ) (below : k < world .0 .count) (word : ℕ) (addressed : Addressed) (asked : Asked (world .0 .started) (world .0 .count) word addressed) (reached : reaches addressed k ≡ true) (unclashing : (j : ℕ) → j < world .0 .count → (j ≡ k → ⊥) → clashesWith (eventOf addressed) (controlAt (world .0 .chips) j .phase) ≡ false) where
   abbrev count : ℕ
   count = world .0 .count
 
@@ -169,7 +169,7 @@ module _ (world : World) (e : Entering world) (k : ℕ) (below : k < world .0 .c
         both-step (λ next. alone k (ledTo next)) (λ next. seen (ledTo next)) (λ refusal. sym (alone-seen k world)) λ is.
         sym (ap (λ next. alone k (ledTo next)) (step-plays world word addressed e (asked .0) is))
         ∙ each-moves world word addressed e (asked .0) is k below
-        ∙ rw (reached, alone-played) (ap (λ (values : List ℕ). (record { count = 1; chips = onlyChips (taken .0 .chip); values = values }, taken .1, taken .2)) (own-load (isLoading (taken .0 .chip)) refl))
+        ∙ rw (reached, alone-played, event-only addressed) (ap (λ (values : List ℕ). (busWith 1 (remembers (eventOf addressed) (world .0 .started)) (onlyChips (taken .0 .chip)) values, taken .1, taken .2)) (own-load (isLoading (taken .0 .chip)) refl))
 
   -- where no other chip says anything, k is heard
   pub answers-alike : ((j : ℕ) → j < world .0 .count → (j ≡ k → ⊥) → own addressed (world .0 .chips) (world .0 .values) (world .1) (world .2) j .0 .said ≡ Nothing)

@@ -1,8 +1,8 @@
 -- What demand 3 supposes can be met: a board of mixed parts, a list of turns on it with much of what a turn may hold, and a shuffle of
--- the list. On a smaller board the answers are computed, refusals 8 and 12 among them.
+-- the list. On a smaller board the answers are computed, refusals 8 and 12 and reply 02 among them.
 use Prim.Native.Nat.{ℕ, zero, suc, _+_, _<_, _≤_, _^_}
 use native.Mathlib.Omega.{arith}
-use mathlib.Core.Bool.{true, false}
+use mathlib.Core.Bool.{Bool, true, false}
 use mathlib.Core.List.{List, [], _∷_}
 use mathlib.Core.Path.{_≡_, _∙_, refl, sym, ap, subst}
 use lib.ListN.{length, replicate, getD-replicate, length-replicate}
@@ -25,7 +25,7 @@ use Rattle.lineup.specs.Chips.{placesOf}
 use Rattle.lineup.specs.Wellformed.{wellFormed}
 use Rattle.bus.specs.declared.Bus.{Bus}
 use Rattle.bus.specs.Setup.{emptyChip}
-use Rattle.bus.specs.Step.{event, step}
+use Rattle.bus.specs.Step.{busWith, event, step}
 use Rattle.bus.proofs.Typed.{OfItsType, bus-typed}
 use Rattle.promises.specs.Playing.{World, answersTo}
 use Rattle.turns.specs.Idle.{isIdle}
@@ -41,13 +41,12 @@ use Rattle.turns.proofs.Typed.{ControlTyped, standby-typed, busy-typed,
 use Rattle.turns.proofs.Undisturbed.{undisturbed}
 use Rattle.turns.proofs.Computing.{eventByEvent, computed, computed-answer, none, none-keeps}
 
--- up to three chips, none of which holds a load
+-- up to three chips, none of which holds a load, on a line that remembers a Start or none
 abbrev withoutLoad : Control → Chip
 withoutLoad c = record { control = c; span = emptySpan }
 
-abbrev line : ℕ → Control → Control → Control → Bus
-line count one two three =
-    record { count = count; chips = withoutLoad one ∷ withoutLoad two ∷ withoutLoad three ∷ emptyChip ∷ []; values = noValues }
+abbrev line : ℕ → Bool → Control → Control → Control → Bus
+line count started one two three = busWith count started (withoutLoad one ∷ withoutLoad two ∷ withoutLoad three ∷ emptyChip ∷ []) noValues
 
 abbrev pub busy : Control → Control
 busy c = inPhase Busy c
@@ -59,13 +58,14 @@ free-typed part strap fits fits′ = fresh-typed part strap fits fits′ false S
 cycling-typed : (part strap : ℕ) → part < 256 → strap < 256 → ControlTyped (busy (fresh part strap))
 cycling-typed part strap fits fits′ = fresh-typed part strap fits fits′ false Busy busy-typed
 
-line-is-typed : (count : ℕ) → count < 2 ^ 64 → (one two three : Control) → ControlTyped one → ControlTyped two → ControlTyped three → OfItsType (line count one two three)
-line-is-typed count fits one two three first second third =
-    bus-typed count _ noValues fits refl (unloaded-typed one first, (unloaded-typed two second, (unloaded-typed three third, (empty-typed, tt)))) no-values-typed
+line-is-typed : (count : ℕ) → count < 2 ^ 64 → (started : Bool) (one two three : Control) → ControlTyped one → ControlTyped two → ControlTyped three
+    → OfItsType (line count started one two three)
+line-is-typed count fits started one two three first second third =
+    bus-typed count started _ noValues fits refl (unloaded-typed one first, (unloaded-typed two second, (unloaded-typed three third, (empty-typed, tt)))) no-values-typed
 
 -- a 24CSM01 at strap 1, a 24CS32 at strap 0 that is busy, and a 24CS32 at strap 5 that is protected, with EWPM 0 and WP high
 abbrev pub mixed : Bus
-mixed = line 3 (fresh 1 1) (busy (fresh 2 0)) (wpAt true (fresh 2 5))
+mixed = line 3 false (fresh 1 1) (busy (fresh 2 0)) (wpAt true (fresh 2 5))
 
 -- the bytes of each store
 abbrev arrays : ℕ
@@ -88,7 +88,7 @@ board-is-ready = mixed-is-ready (replicate arrays 0xFF) (replicate securities 0x
 pub board-is-typed : OfItsType (board .0)
 unfolding board
 board-is-typed =
-    line-is-typed 3 (lit< tt) _ _ _ (free-typed 1 1 (lit< tt) (lit< tt)) (cycling-typed 2 0 (lit< tt) (lit< tt)) (fresh-typed 2 5 (lit< tt) (lit< tt) true Standby standby-typed)
+    line-is-typed 3 (lit< tt) false _ _ _ (free-typed 1 1 (lit< tt) (lit< tt)) (cycling-typed 2 0 (lit< tt) (lit< tt)) (fresh-typed 2 5 (lit< tt) (lit< tt) true Standby standby-typed)
 
 abbrev pub of : ℕ → List ℕ → Turn
 of chip events = record { chip = chip; events = events }
@@ -100,7 +100,7 @@ identifies = of 0 (0x0100 ∷ 0x03F8 ∷ 0x03A4 ∷ 0x0100 ∷ 0x03F9 ∷ 0x0400
 abbrev clashes : Turn
 clashes = of 0 (0x0100 ∷ 0x03A5 ∷ 0x0300 ∷ 0x0200 ∷ [])
 
--- a busy chip is asked and does not acknowledge
+-- a busy chip is asked
 abbrev polls : Turn
 polls = of 1 (0x0100 ∷ 0x03A0 ∷ 0x0200 ∷ [])
 
@@ -149,7 +149,7 @@ cut-replicate at n m x fits =
 
 -- what the busy chip answers there is what it answers alone, where it has 4,096 bytes and not 139,264
 abbrev busyOne : List ℕ → List ℕ → World
-busyOne array security = (onlyBus (withoutLoad (busy (fresh 2 0))) noValues, array, security)
+busyOne array security = (onlyBus false (withoutLoad (busy (fresh 2 0))) noValues, array, security)
 
 alone-is : alone 1 board ≡ busyOne (replicate 4096 0xFF) (replicate 64 0xFF)
 unfolding board placesOf upTo geometryOf
@@ -161,12 +161,16 @@ on-board : 1 < board .0 .count
 unfolding board
 on-board = omega arith
 
+remembers-none : board .0 .started ≡ false
+unfolding board
+remembers-none = refl
+
 -- the answer to event i of its j-th turn
 abbrev answerOfBusy : ℕ → ℕ → ℕ
 answerOfBusy j i = answerOf 1 turns (ending ourBench board turns .1) j i
 
--- polled it is silent; its cycle over, it acknowledges and sends FFh
-pub busy-chip-answers : (answerOfBusy 0 1 ≡ 0x0000) × (answerOfBusy 2 1 ≡ 0x0001) × (answerOfBusy 2 2 ≡ 0x00FF)
+-- polled it says that it is busy; its cycle over, it acknowledges and sends FFh
+pub busy-chip-answers : (answerOfBusy 0 1 ≡ 0x0002) × (answerOfBusy 2 1 ≡ 0x0001) × (answerOfBusy 2 2 ≡ 0x00FF)
 unfolding turns eventByEvent
 busy-chip-answers = (answer 0 1 refl, answer 2 1 refl, answer 2 2 refl)
   where
@@ -174,7 +178,7 @@ busy-chip-answers = (answer 0 1 refl, answer 2 1 refl, answer 2 2 refl)
     own = busyOne (replicate 4096 0xFF) (replicate 64 0xFF)
 
     enters : Entering own
-    enters = subst Entering alone-is (alone-idles board (idling board-is-typed board-is-ready) 1 on-board .entering)
+    enters = subst Entering alone-is (alone-idles board (idling board-is-typed board-is-ready remembers-none) 1 on-board .entering)
 
     answer : (j i : ℕ) → isExcepted (turnOf 1 turns j) i ≡ false → answerOfBusy j i ≡ answerOf 0 (ownTurns 1 turns) (answersTo event own (eventsOf (ownTurns 1 turns))) j i
     answer j i usual =
@@ -183,8 +187,11 @@ busy-chip-answers = (answer 0 1 refl, answer 2 1 refl, answer 2 2 refl)
         ∙ computed-answer none none-keeps own enters 0 (ownTurns 1 turns) j i
 
 -- two 24CS32 at straps 0 and 1, with 5Ah at 000h of the first and FFh elsewhere
+abbrev pairWith : Bool → (Control → Control) → (Control → Control) → World
+pairWith started one two = (line 2 started (one (fresh 2 0)) (two (fresh 2 1)) (fresh 0 0), 0x5A ∷ replicate 8191 0xFF, replicate 128 0xFF)
+
 abbrev pub pair : (Control → Control) → (Control → Control) → World
-pair one two = (line 2 (one (fresh 2 0)) (two (fresh 2 1)) (fresh 0 0), 0x5A ∷ replicate 8191 0xFF, replicate 128 0xFF)
+pair = pairWith false
 
 abbrev pub free : Control → Control
 free c = c
@@ -200,16 +207,16 @@ pairs-are-ready = (
 pub pairs-are-typed : OfItsType (pair free free .0) × OfItsType (pair busy free .0) × OfItsType (pair busy busy .0)
 pairs-are-typed =
     let last = free-typed 0 0 (lit< tt) (lit< tt) in (
-      line-is-typed 2 (lit< tt) _ _ _ (free-typed 2 0 (lit< tt) (lit< tt)) (free-typed 2 1 (lit< tt) (lit< tt)) last,
-      line-is-typed 2 (lit< tt) _ _ _ (cycling-typed 2 0 (lit< tt) (lit< tt)) (free-typed 2 1 (lit< tt) (lit< tt)) last,
-      line-is-typed 2 (lit< tt) _ _ _ (cycling-typed 2 0 (lit< tt) (lit< tt)) (cycling-typed 2 1 (lit< tt) (lit< tt)) last,
+      line-is-typed 2 (lit< tt) false _ _ _ (free-typed 2 0 (lit< tt) (lit< tt)) (free-typed 2 1 (lit< tt) (lit< tt)) last,
+      line-is-typed 2 (lit< tt) false _ _ _ (cycling-typed 2 0 (lit< tt) (lit< tt)) (free-typed 2 1 (lit< tt) (lit< tt)) last,
+      line-is-typed 2 (lit< tt) false _ _ _ (cycling-typed 2 0 (lit< tt) (lit< tt)) (cycling-typed 2 1 (lit< tt) (lit< tt)) last,
     )
 
 -- both together, and the first chip of the second pair alone
 pub pairs-idle : Idling (pair free free) × Idling (pair busy free) × Idling (pair busy busy) × Idling (alone 0 (pair busy free))
 pairs-idle =
-    let second = idling (pairs-are-typed .1) (pairs-are-ready .1) in
-    (idling (pairs-are-typed .0) (pairs-are-ready .0), second, idling (pairs-are-typed .2) (pairs-are-ready .2), alone-idles (pair busy free) second 0 (omega arith))
+    let second = idling (pairs-are-typed .1) (pairs-are-ready .1) refl in
+    (idling (pairs-are-typed .0) (pairs-are-ready .0) refl, second, idling (pairs-are-typed .2) (pairs-are-ready .2) refl, alone-idles (pair busy free) second 0 (omega arith))
 
 -- the first reads the byte at its counter
 abbrev pub firstReads : Turn
@@ -260,3 +267,43 @@ unfolding eventByEvent
 refused-in-both-orders =
     let answers = by-events (pair busy free) (pairs-idle .1 .entering) in
     ((refl, answers (secondEndsNone ∷ secondReads ∷ firstEnds ∷ firstEnds ∷ [])), (refl, answers (firstEnds ∷ secondEndsNone ∷ firstEnds ∷ secondReads ∷ [])))
+
+-- the first is polled, by a 1010 and by a 1011 byte, and the second reads: 02 and 01, in both orders (request E8)
+abbrev firstPolls : Turn
+firstPolls = of 0 (0x0100 ∷ 0x03A0 ∷ 0x0100 ∷ 0x03B1 ∷ 0x0200 ∷ [])
+
+abbrev secondReadsOne : Turn
+secondReadsOne = of 1 (0x0100 ∷ 0x03A3 ∷ 0x0401 ∷ 0x0200 ∷ [])
+
+abbrev SaysBusy : List Turn → Type 0
+SaysBusy list =
+    Turns (pair busy free) list
+    × (toEach list (answersTo step (pair busy free) (eventsOf list))
+    ≡ ((0x0000 ∷ 0x0002 ∷ 0x0000 ∷ 0x0002 ∷ 0x0000 ∷ []) ∷ [], (0x0000 ∷ 0x0001 ∷ 0x00FF ∷ 0x0000 ∷ []) ∷ []))
+
+pub busy-in-both-orders : SaysBusy (firstPolls ∷ secondReadsOne ∷ []) × SaysBusy (secondReadsOne ∷ firstPolls ∷ [])
+unfolding eventByEvent
+busy-in-both-orders =
+    let answers = by-events (pair busy free) (pairs-idle .1 .entering) in
+    ((refl, answers (firstPolls ∷ secondReadsOne ∷ [])), (refl, answers (secondReadsOne ∷ firstPolls ∷ [])))
+
+-- a bus that remembers a Start is idle too: here both chips are busy, the cycle of the first ends, and the second is polled
+pub remembering-is-ready : OfItsType (pairWith true busy busy .0) × Ready (pairWith true busy busy)
+unfolding wellFormed boardVerdict placesOf upTo one-chip.wellFormed geometryOf isIdle
+remembering-is-ready =
+    let last = free-typed 0 0 (lit< tt) (lit< tt) in
+    (line-is-typed 2 (lit< tt) true _ _ _ (cycling-typed 2 0 (lit< tt) (lit< tt)) (cycling-typed 2 1 (lit< tt) (lit< tt)) last, record { enters = refl; idle = refl })
+
+abbrev secondPolls : Turn
+secondPolls = of 1 (0x0100 ∷ 0x03A2 ∷ 0x0200 ∷ [])
+
+abbrev AnsweredAsWithout : List Turn → Type 0
+AnsweredAsWithout list =
+    Turns (pairWith true busy busy) list
+    × (toEach list (answersTo step (pairWith true busy busy) (eventsOf list)) ≡ ((0x0000 ∷ []) ∷ [], (0x0000 ∷ 0x0002 ∷ 0x0000 ∷ []) ∷ []))
+
+pub remembering-in-both-orders : AnsweredAsWithout (firstEnds ∷ secondPolls ∷ []) × AnsweredAsWithout (secondPolls ∷ firstEnds ∷ [])
+unfolding eventByEvent
+remembering-in-both-orders =
+    let answers = by-events (pairWith true busy busy) (record { typed = remembering-is-ready .0; enters = remembering-is-ready .1 .enters }) in
+    ((refl, answers (firstEnds ∷ secondPolls ∷ [])), (refl, answers (secondPolls ∷ firstEnds ∷ [])))

@@ -13,7 +13,7 @@ use Rattle.decode.specs.Decode.{valueOf}
 use Rattle.turns.specs.Turn.{isStart, isStop, isSent, isF8, isRead, isNaming, isAddressOf, isFirstByte, Next, Anything, AddressByte, ChoiceByte, isRestOfTurn, isTurnAt}
 
 -- nothing is left
-only-one : (P : List ℕ → Type 0) (more : List ℕ) → eqb (length more) 0 ≡ true → P [] → P more
+pub only-one : (P : List ℕ → Type 0) (more : List ℕ) → eqb (length more) 0 ≡ true → P [] → P more
 only-one P [] none here = here
 only-one P (word ∷ more) none here = let long : suc (length more) ≡ 0 = eqb-true _ _ none in absurd (omega (arith, long))
 

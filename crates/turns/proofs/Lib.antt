@@ -15,6 +15,7 @@ mod Turn
 pub mod OneTurn
 mod Lists
 pub mod Renamed
+pub mod Remembering
 mod Same
 pub mod Turns
 pub mod Acknowledged

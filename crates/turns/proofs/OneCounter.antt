@@ -27,7 +27,7 @@ use Rattle.board.specs.Place.{nowhere}
 use Rattle.board.proofs.Laws.{placed-most}
 use Rattle.lineup.specs.Chips.{noChip, chipAt, controlAt, placeOf, placesOf}
 use Rattle.bus.specs.declared.Bus.{Bus}
-use Rattle.bus.specs.Step.{entryChecks}
+use Rattle.bus.specs.Step.{entryChecks, busWith}
 use Rattle.bus.proofs.Typed.{OfItsType, count-fits, has-four, values-typed, bus-typed, chip-typed}
 use Rattle.promises.proofs.Keeping.Good.{inside-of, unloaded-fits}
 use Rattle.promises.proofs.Formed.{formed-of, of-formed, entry-of, of-entry}
@@ -82,12 +82,15 @@ module _ (at : ℕ) where
       second : sideBySide (c .control) (movedTo at d .control) ≡ sideBySide (c .control) (d .control)
       second = moves-or-stays (λ (y : Chip). sideBySide (c .control) (y .control) ≡ sideBySide (c .control) (d .control)) d (λ empty. refl) refl
 
+  same-phase : (c : Chip) → movedTo at c .control .phase ≡ c .control .phase
+  same-phase c = moves-or-stays (λ (x : Chip). x .control .phase ≡ c .control .phase) c (λ empty. refl) refl
+
   same-place : (c : Chip) → placeOf (movedTo at c .control) ≡ placeOf (c .control)
   same-place c = moves-or-stays (λ (x : Chip). placeOf (x .control) ≡ placeOf (c .control)) c (λ empty. refl) refl
 
   module _ (bus : Bus) (array security : List ℕ) (typed : OfItsType bus) where
     abbrev moved : Bus
-    moved = record { count = bus .count; chips = map (movedTo at) (bus .chips); values = bus .values }
+    moved = busWith (bus .count) (bus .started) (map (movedTo at) (bus .chips)) (bus .values)
 
     here : (i : ℕ) → i < 4 → chipAt (moved .chips) i ≡ movedTo at (chipAt (bus .chips) i)
     here i below = each-moves (bus .chips) i (omega (arith, has-four typed))
@@ -102,7 +105,7 @@ module _ (at : ℕ) where
     moved-typed : OfItsType moved
     moved-typed =
         let four : length (moved .chips) ≡ 4 = length-map (bus .chips) (movedTo at) ∙ has-four typed in
-        bus-typed (bus .count) (moved .chips) (bus .values) (count-fits typed) four
+        bus-typed (bus .count) (bus .started) (moved .chips) (bus .values) (count-fits typed) four
         (every-of ChipTyped (moved .chips) noChip (λ i below.
         let inside : i < 4 = omega (arith, below, four) in
         let own = chip-typed typed i inside in
@@ -113,15 +116,16 @@ module _ (at : ℕ) where
     still-enters : firstOf (entryChecks bus array security) ≡ Passed → Entering (moved, array, security)
     still-enters passed =
         let (formed, array-fits, security-fits) = entry-of bus array security passed in
-        let was = formed-of _ _ formed in
+        let was = formed-of _ _ _ formed in
         let most = placed-most (bus .count) in
         let now =
-        of-formed (bus .count) (moved .chips)
+        of-formed (bus .count) (bus .started) (moved .chips)
         (record {
           set-up = rw same-places (was .set-up);
           fit = λ i below. rw (here i (omega (arith, most))) (still-formed (chipAt (bus .chips) i) (was .fit i below));
           apart = λ i j below before.
               rw (controlAt, here i (omega (arith, most)), here j (omega (arith, most)), same-beside (chipAt (bus .chips) i) (chipAt (bus .chips) j)) (was .apart i j below before);
+          heed = λ i below. rw (controlAt, here i (omega (arith, most)), same-phase (chipAt (bus .chips) i)) (was .heed i below);
         }) in
         record { typed = moved-typed; enters = of-entry moved array security (now, rw same-places array-fits, rw same-places security-fits) }
 

@@ -14,6 +14,7 @@ use Rattle.base.proofs.logic.Laws.{and-left, and-right}
 use Rattle.base.proofs.Fold.{all-at, all-each, any-pair-none}
 use Rattle.parts.specs.Part.{geometryOf}
 use Rattle.parts.specs.Address.{shareAddress}
+use Rattle.load.specs.Load.{noValues}
 use Rattle.chip.specs.declared.Chip.{Chip}
 use Rattle.board.specs.declared.Place.{Place}
 use Rattle.board.specs.Place.{placeAt, placed}
@@ -31,7 +32,7 @@ use Rattle.turns.specs.Idle.{isAtRest, isIdle}
 use Rattle.turns.specs.Seen.{seen}
 use Rattle.turns.specs.Turn.{Turn, Anything, isTurnAt, isTurn}
 use Rattle.turns.specs.Shuffle.{isExcepted}
-use Rattle.turns.specs.Alone.{alone, renamed}
+use Rattle.turns.specs.Alone.{alone, renamed, onlyBus}
 use Rattle.turns.specs.Undisturbed.{Ready}
 use Rattle.turns.proofs.Entering.{Idling, idling, ready-of}
 use Rattle.turns.proofs.Alone.{only-unloaded, alone-enters}
@@ -41,6 +42,13 @@ use Rattle.turns.proofs.Typed.{alone-typed}
 use Rattle.turns.proofs.During.{During, excepted, Went}
 use Rattle.turns.proofs.Grammar.{turn-by-cases}
 use Rattle.turns.proofs.Turn.{Leads, named-leads, each-leads}
+
+-- where turns may begin every chip is at rest
+rests-at : (world : World) → Ready world → (j : ℕ) → j < world .0 .count → isAtRest (chipAt (world .0 .chips) j) ≡ true
+unfolding isIdle
+rests-at world ready j below =
+    all-at (λ (i : ℕ). isAtRest (chipAt (world .0 .chips) i)) (placed (world .0 .count)) j (ready .idle)
+    (omega (arith, entered (world .0) (world .1) (world .2) (ready .enters) .all-placed))
 
 module _ (began : World) (waits : Idling began) where
   abbrev count : ℕ
@@ -56,15 +64,14 @@ module _ (began : World) (waits : Idling began) where
   entry = entered (began .0) (began .1) (began .2) (waits .entering .enters)
 
   at-rest : (j : ℕ) → j < count → isAtRest (chipAt chips j) ≡ true
-  unfolding isIdle
-  at-rest j below = all-at (λ (i : ℕ). isAtRest (chipAt chips i)) (placed count) j (waits .idle) (omega (arith, entry .all-placed))
+  at-rest = rests-at began (ready-of waits .1)
 
   -- no two chips match one address byte: the last of set-up's checks
   apart : (i j : ℕ) → i < count → j < i → sharedAddress places i j ≡ false
   unfolding boardVerdict
   apart i j below before =
       any-pair-none (sharedAddress places) (placed count) i j
-      (none-holds (boardChecks count places) (formed-of count chips (entry .formed) .set-up) .1 .1 .1 .0)
+      (none-holds (boardChecks count places) (formed-of count (began .0 .started) chips (entry .formed) .set-up) .1 .1 .1 .0)
       (omega (arith, entry .all-placed))
       before
 
@@ -93,8 +100,9 @@ module _ (began : World) (waits : Idling began) where
         count = refl;
         board = refl;
         rest = λ i past. refl;
+        started = waits .forgot;
         heeds = tt;
-        others = λ j before differ. ap (λ (bus : Bus). (bus, alone j began .1, alone j began .2)) (only-unloaded _ _ (waiting-unloaded (chipAt chips j) (at-rest j before) Anything));
+        others = λ j before differ. ap (λ (bus : Bus). (bus, alone j began .1, alone j began .2)) (only-unloaded _ _ _ (waiting-unloaded (chipAt chips j) (at-rest j before) Anything) ∙ ap (λ (started : Bool). onlyBus started (chipAt chips j) noValues) (waits .forgot));
       }
 
   went : (k : ℕ) (events : List ℕ) → k < count → isTurnAt (placeAt places k) k events ≡ true → Went k false events began began
@@ -122,7 +130,7 @@ pub turn-leaves : (began : World) → Idling began → (turn : Turn) → isTurn 
 unfolding isIdle
 turn-leaves began waits turn is =
     record {
-      waits = record { entering = now .entering; idle = at-rest-again };
+      waits = record { entering = now .entering; idle = at-rest-again; forgot = now .started };
       count = now .count;
       board = now .board;
       rest = now .rest;
@@ -160,17 +168,16 @@ turn-leaves began waits turn is =
         all-each (λ (i : ℕ). isAtRest (chipAt (ends .0 .chips) i)) (placed (ends .0 .count))
         (λ j below. rests j (omega (arith, below, now .count, entered (ends .0) (ends .1) (ends .2) (now .entering .enters) .all-placed)) (eqb j k) refl)
 
--- a chip alone on the line waits for its turns too
-pub alone-idles : (world : World) → Idling world → (k : ℕ) → k < world .0 .count → Idling (alone k world)
-unfolding isIdle upTo
-alone-idles world waits k below =
-    record {
-      entering = record {
-        typed = alone-typed world k (omega (arith, below, entry world waits .chips-most)) (waits .entering .typed);
-        enters = alone-enters world (waits .entering .enters) k below;
-      };
-      idle = rw (at-rest world waits k below);
-    }
-
+-- a chip alone on the line waits for its turns too, whether a Start is remembered or none
 pub alone-ready : (world : World) → OfItsType (world .0) → Ready world → (k : ℕ) → k < world .0 .count → OfItsType (alone k world .0) × Ready (alone k world)
-alone-ready world typed ready k below = ready-of (alone-idles world (idling typed ready) k below)
+unfolding isIdle upTo
+alone-ready world typed ready k below = (
+  alone-typed world k (omega (arith, below, entered (world .0) (world .1) (world .2) (ready .enters) .chips-most)) typed,
+  record { enters = alone-enters world (ready .enters) k below; idle = rw (rests-at world ready k below) },
+)
+
+pub alone-idles : (world : World) → Idling world → (k : ℕ) → k < world .0 .count → Idling (alone k world)
+alone-idles world waits k below =
+    let (typed, ready) = ready-of waits in
+    let (typed′, ready′) = alone-ready world typed ready k below in
+    idling typed′ ready′ (waits .forgot)

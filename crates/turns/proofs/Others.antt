@@ -56,7 +56,7 @@ module _ (k : ℕ) (place : Place) (began : World) (b : Others k place began) (j
   pub sits-stop : SitsThrough (ToAll Stop) Anything Anything silent j began
   sits-stop = (refl, passes-stop c rest _ a s, waiting-unloaded c rest)
 
-  pub sits-byte : (byte : ℕ) → SitsThrough (ToAll (Sent byte)) Anything Anything silent j began
+  pub sits-byte : (byte : ℕ) → SitsThrough (ToAll (Sent false byte)) Anything Anything silent j began
   sits-byte byte = (waiting-sends-nothing c rest Anything, passes-byte c rest _ a s byte, waiting-unloaded c rest)
 
   pub sits-read : (nack : Bool) → SitsThrough (ToAll (Read nack)) Anything Anything silent j began
@@ -65,13 +65,13 @@ module _ (k : ℕ) (place : Place) (began : World) (b : Others k place began) (j
   pub sits-named : (event : Event) → SitsThrough (ToOne k event) Anything Anything silent j began
   sits-named event = (rest-clashes c rest event, rw (ne-eqb j k differ), waiting-unloaded c rest)
 
-  pub sits-first : (byte : ℕ) → isFirstByte place byte ≡ true → SitsThrough (ToAll (Sent byte)) AddressByte Anything silent j began
+  pub sits-first : (byte : ℕ) → isFirstByte place byte ≡ true → SitsThrough (ToAll (Sent true byte)) AddressByte Anything silent j began
   sits-first byte is =
       (waiting-sends-nothing c rest AddressByte, passes-first c rest _ a s place byte (b .unshared j before differ) is, waiting-unloaded c rest)
 
-  pub sits-f8 : SitsThrough (ToAll (Sent 0xF8)) AddressByte ChoiceByte toF8 j began
+  pub sits-f8 : SitsThrough (ToAll (Sent true 0xF8)) AddressByte ChoiceByte toF8 j began
   sits-f8 = (waiting-sends-nothing c rest AddressByte, hears-f8 c rest _ a s, waiting-unloaded c rest)
 
-  pub sits-choice : (byte : ℕ) → isAddressOf 0b1010 place byte ≡ true → SitsThrough (ToAll (Sent byte)) ChoiceByte Anything silent j began
+  pub sits-choice : (byte : ℕ) → isAddressOf 0b1010 place byte ≡ true → SitsThrough (ToAll (Sent false byte)) ChoiceByte Anything silent j began
   sits-choice byte is =
       (waiting-sends-nothing c rest ChoiceByte, passes-choice c rest _ a s place byte (b .unshared j before differ) is, waiting-unloaded c rest)

@@ -14,12 +14,11 @@ use Rattle.promises.proofs.Playing.{answers-length}
 use Rattle.turns.specs.Turn.{Turn}
 use Rattle.turns.specs.Shuffle.{turnOf, beganAt, eventsOf, Shuffle, answerOf, isExcepted}
 use Rattle.turns.specs.Seen.{seen}
-use Rattle.turns.specs.Alone.{alone, ownTurns}
+use Rattle.turns.specs.Alone.{alone, forgetting, ownTurns}
 use Rattle.turns.specs.Undisturbed.{Ready, Turns, Alike, AsAlone, acknowledge}
 use Rattle.turns.proofs.Alone.{alone-enters}
 use Rattle.turns.proofs.Lists.{answers-past}
-use Rattle.turns.proofs.Turns.{turns-end-ready}
-use Rattle.turns.proofs.Undisturbed.{undisturbed}
+use Rattle.turns.proofs.Undisturbed.{turns-end-ready, undisturbed}
 
 -- what follows the answers is not looked at
 own-answer : {call : RunCall} {world : World} (turns : List Turn) → Returned call world (eventsOf turns) → (k j i : ℕ)
@@ -61,7 +60,7 @@ module _ (world : World) (ready : Ready world) (turns : List Turn) (are-turns : 
         ran .verdict,
         ran′ .verdict,
         record {
-          ends = ap (alone k) (ran .ends) ∙ alike .ends ∙ ap seen (sym (ran′ .ends));
+          ends = ap (λ (w : World). forgetting (alone k w)) (ran .ends) ∙ alike .ends ∙ ap (λ (w : World). forgetting (seen w)) (sym (ran′ .ends));
           answers = λ j i plain. own-answer turns ran k j i ∙ alike .answers j i plain ∙ sym (own-answer (ownTurns k turns) ran′ 0 j i);
         },
       )
@@ -79,5 +78,5 @@ module _ (world : World) (ready : Ready world) (turns : List Turn) (are-turns : 
   pub runs-end-ready : (one : RunCall) → Plays one world (eventsOf turns) → OfItsType (runEnd one .0 .0) × Ready (runEnd one .0)
   runs-end-ready one plays = (
     run-end-typed one,
-    subst Ready (sym (back one plays .ends)) (turns-end-ready turns world (typed one plays) ready are-turns .1),
+    subst Ready (sym (back one plays .ends)) (turns-end-ready world turns (typed one plays) ready are-turns .1),
   )

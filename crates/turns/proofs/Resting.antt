@@ -1,7 +1,7 @@
 -- Any chip: a Stop leaves it at rest, and so does an event that names it where it was at rest; a Start, and F8h behind it, leave it sending
 -- nothing.
 use Prim.Native.Nat.{ℕ, _%_}
-use mathlib.Core.Bool.{Bool, true, false, cond, not, _&&_, _||_, false≢true}
+use mathlib.Core.Bool.{Bool, true, false, cond, not, _&&_, _||_, and-false, false≢true}
 use mathlib.Core.List.{List}
 use mathlib.Core.Path.{_≡_, refl, ap}
 use Rattle.base.proofs.logic.Laws.{and-left, and-right, or-right, or-either, either-if, either}
@@ -21,7 +21,7 @@ use Rattle.control.specs.Exchange.{standbyNow, busyNow}
 use Rattle.control.specs.Bits.{configlock}
 use Rattle.control.proofs.phase.Laws.{busy-is, awaits-address-is}
 use Rattle.configuration.specs.Configuration.{confirms, stopConfiguration}
-use Rattle.addressing.specs.Address.{callOf, takeAddress}
+use Rattle.addressing.specs.Address.{callOf, takeAddress, takeBusy}
 use Rattle.taking.specs.Taking as taking
 use Rattle.cycle.specs.Stop.{writesArray, writesSecurity, stopData, stop}
 use Rattle.cycle.proofs.Laws.{stop-either}
@@ -31,7 +31,7 @@ use Rattle.chip.specs.declared.event.Event.the-variants.{Start, Stop, Sent, Rea
 use Rattle.chip.specs.Chip.{step}
 use Rattle.wellformed.specs.Wellformed.{isSetUp, countersFit, placeFits, unusedBitsClear, busyNotChosen, controlFits, wellFormed}
 use Rattle.promises.proofs.Keeping.Good.{unloaded-of}
-use Rattle.promises.proofs.Keeping.Beside.{isNamed}
+use Rattle.promises.proofs.Keeping.Beside.{namesAChip}
 use Rattle.turns.specs.Idle.{isAtRest}
 use Rattle.turns.proofs.Bystander.{woken}
 
@@ -80,11 +80,11 @@ stop-rests c v a s formed =
         and-right (unusedBitsClear (c .control) && placeFits (c .control .phase)) _
         (and-right (isSetUp (c .control) && countersFit (c .control)) _ (and-left _ _ formed))
 
-pub named-rests : (c : Chip) (v a s : List ℕ) (event : Event) → isNamed event ≡ true → isAtRest c ≡ true → isAtRest (step c v a s event .0 .chip) ≡ true
+pub named-rests : (c : Chip) (v a s : List ℕ) (event : Event) → namesAChip event ≡ true → isAtRest c ≡ true → isAtRest (step c v a s event .0 .chip) ≡ true
 unfolding step
 named-rests c v a s Start named rest = absurd (false≢true named)
 named-rests c v a s Stop named rest = absurd (false≢true named)
-named-rests c v a s (Sent byte) named rest = absurd (false≢true named)
+named-rests c v a s (Sent first byte) named rest = absurd (false≢true named)
 named-rests c v a s (Read nack) named rest = absurd (false≢true named)
 named-rests c v a s (Wp level) named rest = rest
 named-rests c v a s CycleOver named rest =
@@ -114,17 +114,18 @@ heeds phase heeding P address busy =
 pub heeding-sends-nothing : (phase : Phase) → isHeeding phase ≡ true → isSending phase ≡ false
 heeding-sends-nothing phase heeding = heeds phase heeding (λ (p : Phase). isSending p ≡ false) refl refl
 
-module _ (c : Chip) (v a s : List ℕ) (heeding : isHeeding (c .control .phase) ≡ true) where
-  pub f8-heeds : isSending (step c v a s (Sent 0xF8) .0 .chip .control .phase) ≡ false
-  unfolding step taking.take takeAddress callOf
+-- F8h names no chip, so it is the same to a busy one whether it is the first byte after a Start or not
+module _ (c : Chip) (v a s : List ℕ) (first : Bool) (heeding : isHeeding (c .control .phase) ≡ true) where
+  pub f8-heeds : isSending (step c v a s (Sent first 0xF8) .0 .chip .control .phase) ≡ false
+  unfolding step taking.take takeAddress takeBusy callOf
   f8-heeds =
-      heeds (c .control .phase) heeding (λ (p : Phase). isSending (taking.takeIn p (c .control) 0xF8 .control .phase) ≡ false)
+      heeds (c .control .phase) heeding (λ (p : Phase). isSending (taking.takeIn p (c .control) first 0xF8 .control .phase) ≡ false)
       refl
-      (heeding-sends-nothing (c .control .phase) heeding)
+      (rw (and-false first) (heeding-sends-nothing (c .control .phase) heeding))
 
-  pub f8-said : step c v a s (Sent 0xF8) .0 .said ≡ cond (isBusy (c .control .phase)) Nothing Ack
-  unfolding step taking.take takeAddress callOf
+  pub f8-said : step c v a s (Sent first 0xF8) .0 .said ≡ cond (isBusy (c .control .phase)) Nothing Ack
+  unfolding step taking.take takeAddress takeBusy callOf
   f8-said =
-      heeds (c .control .phase) heeding (λ (p : Phase). taking.takeIn p (c .control) 0xF8 .said ≡ cond (isBusy p) Nothing Ack)
+      heeds (c .control .phase) heeding (λ (p : Phase). taking.takeIn p (c .control) first 0xF8 .said ≡ cond (isBusy p) Nothing Ack)
       refl
-      refl
+      (rw (and-false first))

@@ -19,7 +19,7 @@ use Rattle.board.specs.Shares.{figuresAt}
 use Rattle.board.proofs.Laws.{startOf}
 use Rattle.lineup.specs.Chips.{noChip, chipAt, placesOf}
 use Rattle.bus.specs.declared.Bus.{Bus}
-use Rattle.bus.specs.Step.{entryChecks}
+use Rattle.bus.specs.Step.{entryChecks, busWith}
 use Rattle.bus.proofs.Entry.{Entered, entered}
 use Rattle.promises.specs.Playing.{World}
 use Rattle.turns.specs.Seen.{anyLoading, seenOf, seen}
@@ -67,15 +67,19 @@ same-world one other four four′ counts enters enters′ past each none none′
     same-chips : one .0 .chips ≡ other .0 .chips
     same-chips = ext-getD noChip (one .0 .chips) (other .0 .chips) (four ∙ sym four′) (λ i below. same-chip i (decLt i (one .0 .count)))
 
+    here : Entered (one .0) (one .1) (one .2)
+    here = entered (one .0) (one .1) (one .2) enters
+
+    -- there is a chip, and alone it is on a line that remembers what the whole one does
+    same-start : one .0 .started ≡ other .0 .started
+    same-start = ap (λ (world : World). world .0 .started) (each 0 (here .chips-some))
+
     -- on both no chip holds a load
-    unloaded : (bus : Bus) → anyLoading bus ≡ false → seenOf bus ≡ record { count = bus .count; chips = bus .chips; values = noValues }
+    unloaded : (bus : Bus) → anyLoading bus ≡ false → seenOf bus ≡ busWith (bus .count) (bus .started) (bus .chips) noValues
     unloaded bus empty = rw empty
 
     same-bus : seenOf (one .0) ≡ seenOf (other .0)
-    same-bus = unloaded (one .0) none ∙ (λ j. record { count = counts j; chips = same-chips j; values = noValues }) ∙ sym (unloaded (other .0) none′)
-
-    here : Entered (one .0) (one .1) (one .2)
-    here = entered (one .0) (one .1) (one .2) enters
+    same-bus = unloaded (one .0) none ∙ (λ j. busWith (counts j) (same-start j) (same-chips j) noValues) ∙ sym (unloaded (other .0) none′)
 
     same-held : (size : Geometry → ℕ) (xs ys : List ℕ)
         → length xs ≡ startOf (share size (one .0)) (placed (one .0 .count))

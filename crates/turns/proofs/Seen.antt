@@ -28,7 +28,7 @@ use Rattle.lineup.specs.Chips.{noChip, chipAt, placesOf}
 use Rattle.line.specs.Line.{OnLine, chipsOf, arrayShare, securityShare, landed, chipTakes, play, chipLoads, valuesAfter}
 use Rattle.bus.specs.declared.Bus.{Bus}
 use Rattle.bus.specs.declared.Stepped.{Stepped}
-use Rattle.bus.specs.Step.{eventChecks, done, played, stepBy, event, step}
+use Rattle.bus.specs.Step.{eventChecks, busWith, remembers, done, played, stepBy, event, step}
 use Rattle.bus.proofs.Entry.{Entered, entered}
 use Rattle.bus.proofs.Typed.{count-fits, has-four, every-typed, ValuesTyped, values-typed, bus-typed}
 use Rattle.promises.specs.Own.{own}
@@ -116,14 +116,14 @@ module _ (world : World) (e : Entering world) where
 
   -- the same bus with other values
   abbrev holding : List ℕ → Bus
-  holding values = record { count = bus .count; chips = bus .chips; values = values }
+  holding values = busWith (bus .count) (bus .started) (bus .chips) values
 
   entry : Entered (world .0) (world .1) (world .2)
   entry = entered (world .0) (world .1) (world .2) (e .enters)
 
   module _ (none : anyLoading bus ≡ false) (word : ℕ) where
     abbrev addressed : Addressed
-    addressed = addressedOf word
+    addressed = addressedOf (bus .started) word
 
     empty : (i : ℕ) → i < placed (bus .count) → isEmpty (chipAt (bus .chips) i .span) ≡ true
     empty i below = not-false _ (any-none (λ (i : ℕ). isLoading (chipAt (bus .chips) i)) (placed (bus .count)) i none below)
@@ -147,9 +147,9 @@ module _ (world : World) (e : Entering world) where
     unseen-by : (verdict : Verdict) → shown (stepBy verdict (holding noValues) (world .1) (world .2) word) ≡ shown (stepBy verdict bus (world .1) (world .2) word)
     unfolding played
     unseen-by Passed =
-        ap (λ (now : OnLine). shown (done (eventOf addressed) (bus .count) (now, valuesAfter addressed (bus .count) (bus .chips) noValues)))
+        ap (λ (now : OnLine). shown (done (eventOf addressed) (bus .count) (bus .started) (now, valuesAfter addressed (bus .count) (bus .chips) noValues)))
         (blind-play addressed (bus .count) (bus .chips) (world .1) (world .2) empty noValues (bus .values))
-        ∙ ap (λ (values : List ℕ). (answerWord (done (eventOf addressed) (bus .count) (line, values) .0 .answer), (record { count = bus .count; chips = chipsOf line; values = values }, line .1, line .2)))
+        ∙ ap (λ (values : List ℕ). (answerWord (done (eventOf addressed) (bus .count) (bus .started) (line, values) .0 .answer), (busWith (bus .count) (remembers (eventOf addressed) (bus .started)) (chipsOf line) values, line .1, line .2)))
         (values-shown (anyBelow (λ (i : ℕ). isLoading (chipAt (chipsOf line) i)) (placed (bus .count))) refl)
     unseen-by (Refused refusal) = rw none
 
@@ -170,7 +170,7 @@ module _ (world : World) (e : Entering world) where
   pub seen-enters : Entering (seen world)
   seen-enters =
       record {
-        typed = bus-typed (bus .count) (bus .chips) _ (count-fits (e .typed)) (has-four (e .typed)) (every-typed (e .typed)) (either ValuesTyped (anyLoading bus) _ _ (values-typed (e .typed)) no-values-typed);
+        typed = bus-typed (bus .count) (bus .started) (bus .chips) _ (count-fits (e .typed)) (has-four (e .typed)) (every-typed (e .typed)) (either ValuesTyped (anyLoading bus) _ _ (values-typed (e .typed)) no-values-typed);
         enters = e .enters;
       }
 
@@ -181,7 +181,7 @@ unfolding after answersTo
 never-seen [] world e = (refl, twice (anyLoading (world .0)))
   where
     holdingIf : Bool → List ℕ → World
-    holdingIf some values = (record { count = world .0 .count; chips = world .0 .chips; values = cond some values noValues }, world .1, world .2)
+    holdingIf some values = (busWith (world .0 .count) (world .0 .started) (world .0 .chips) (cond some values noValues), world .1, world .2)
 
     twice : (some : Bool) → holdingIf some (cond some (world .0 .values) noValues) ≡ holdingIf some (world .0 .values)
     twice true = refl

@@ -73,10 +73,10 @@ set-up-is-typed count places array security fits bytes = go (firstOf (setUpCheck
 
     go : (verdict : Verdict) → OfItsType (setUpBy verdict count places .bus)
     go Passed =
-        bus-typed count (freshChips places (placed count)) noValues fits (filled-length freshAt (replicate 4 emptyChip) (placed count))
+        bus-typed count false (freshChips places (placed count)) noValues fits (filled-length freshAt (replicate 4 emptyChip) (placed count))
         (up-keeps _ (Every ChipTyped) (λ i chips so-far. every-set ChipTyped chips i (freshAt i) so-far (typed-at i)) (placed count) (replicate 4 emptyChip) none)
         no-values-typed
-    go (Refused refusal) = bus-typed 0 (replicate 4 emptyChip) noValues (lit< tt) refl none no-values-typed
+    go (Refused refusal) = bus-typed 0 false (replicate 4 emptyChip) noValues (lit< tt) refl none no-values-typed
 
 -- the same of a call of `Bus::set_up`
 module _ (call : SetUpCall) where

@@ -14,9 +14,10 @@ use Rattle.refusal.specs.declared.Verdict.the-variants.{Passed, Refused}
 use Rattle.refusal.specs.Checks.{firstOf}
 use Rattle.decode.specs.declared.Addressed.{Addressed}
 use Rattle.decode.specs.declared.Addressed.the-variants.{ToAll}
+use Rattle.decode.specs.Decode.{eventOf}
 use Rattle.lineup.specs.Chips.{chipAt, placesOf}
 use Rattle.line.specs.Line.{clash, lineChecks, valuesAfter}
-use Rattle.bus.specs.Step.{eventChecks, refused, played, stepBy, event, step}
+use Rattle.bus.specs.Step.{eventChecks, remembers, refused, played, stepBy, event, step}
 use Rattle.bus.proofs.Entry.{Entered, entered}
 use Rattle.bus.proofs.Typed.{has-four}
 use Rattle.promises.specs.Own.{own}
@@ -36,7 +37,7 @@ lineVerdict addressed world = firstOf (lineChecks addressed (world .0 .count) (w
 pub to-all-passes : (world : World) (event : Event) → clash event (world .0 .count) (world .0 .chips) ≡ false → lineVerdict (ToAll event) world ≡ Passed
 to-all-passes world event calm = ap (λ (clashes : Bool). cond clashes (Refused Clash) Passed) calm
 
-module _ (world : World) (word : ℕ) (addressed : Addressed) (e : Entering world) (legal : Legal (world .0 .count) word addressed) where
+module _ (world : World) (word : ℕ) (addressed : Addressed) (e : Entering world) (legal : Legal (world .0 .started) (world .0 .count) word addressed) where
   abbrev count : ℕ
   count = world .0 .count
 
@@ -86,7 +87,7 @@ module _ (world : World) (word : ℕ) (addressed : Addressed) (e : Entering worl
 
   -- played, each chip has made its own step
   pub each-moves : lineVerdict addressed world ≡ Passed → (i : ℕ) → i < world .0 .count
-      → let mine = own addressed (world .0 .chips) (world .0 .values) (world .1) (world .2) i in alone i (afterOne step world word) ≡ (onlyBus (mine .0 .chip) (valuesAfter addressed (world .0 .count) (world .0 .chips) (world .0 .values)), mine .1, mine .2)
+      → let mine = own addressed (world .0 .chips) (world .0 .values) (world .1) (world .2) i in alone i (afterOne step world word) ≡ (onlyBus (remembers (eventOf addressed) (world .0 .started)) (mine .0 .chip) (valuesAfter addressed (world .0 .count) (world .0 .chips) (world .0 .values)), mine .1, mine .2)
   unfolding played
   each-moves is i below =
       let (chip-is, array-is, security-is) = each-chip-takes-its-own addressed count chips (world .0 .values) (world .1) (world .2) (has-four (e .typed)) (entry .array-fits) (entry .security-fits) i (omega (arith, entry .all-placed)) in

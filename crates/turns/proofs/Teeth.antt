@@ -21,7 +21,7 @@ use Rattle.turns.specs.Alone.{alone, renamed, ownTurns}
 use Rattle.turns.specs.Playing.{ending}
 use Rattle.turns.specs.Benches.{shared, oneCounter, forFirst, ownF8}
 use Rattle.turns.specs.Undisturbed.{Ready, Turns, acknowledge, Undisturbed}
-use Rattle.turns.proofs.Entering.{Entering, idling}
+use Rattle.turns.proofs.Entering.{Entering}
 use Rattle.turns.proofs.Computing.{eventByEvent, Keeps, computed, computed-answer, none, none-keeps}
 use Rattle.turns.proofs.Examples.{of, pair, free, busy, pairs-are-ready, pairs-are-typed, pairs-idle, firstReads}
 use Rattle.turns.proofs.OneCounter.{shared-keeps}
@@ -44,7 +44,7 @@ one-counter-disturbs undisturbed =
     let one : List Turn = firstReads ∷ secondReads ∷ [] in
     let other : List Turn = secondReads ∷ firstReads ∷ [] in
     let same = undisturbed .shuffled (pair free free) one other typed ready refl (swapped _ _) .answers 0 0 2 refl in
-    let answer = computed-answer shared shared-keeps (pair free free) (idling typed ready .entering) 0 in
+    let answer = computed-answer shared shared-keeps (pair free free) (pairs-idle .0 .entering) 0 in
     eqb-false _ _ refl (sym (answer one 0 2) ∙ same ∙ answer other 0 2)
 
 -- two chips are sent a word address each, 005h and 007h
@@ -63,7 +63,7 @@ one-counter-ends-apart agree =
     let ready = pairs-are-ready .0 in
     let one : List Turn = firstAddressed ∷ secondAddressed ∷ [] in
     let other : List Turn = secondAddressed ∷ firstAddressed ∷ [] in
-    let ends = computed shared shared-keeps (pair free free) (idling typed ready .entering) in
+    let ends = computed shared shared-keeps (pair free free) (pairs-idle .0 .entering) in
     let same = sym (ap seen (ends (eventsOf one) .0)) ∙ agree (pair free free) one other typed ready refl (swapped _ _) ∙ ap seen (ends (eventsOf other) .0) in
     eqb-false _ _ refl (ap (λ (world : World). controlAt (world .0 .chips) 0 .arraycounter) same)
 
@@ -92,7 +92,7 @@ f8-is-not-its-own without =
     let ready = pairs-are-ready .1 in
     let turns : List Turn = calls ∷ [] in
     let same = without (pair busy free) turns typed ready refl 0 (omega arith) 0 1 in
-    let together = computed-answer none none-keeps (pair busy free) (idling typed ready .entering) 0 turns 0 1 in
+    let together = computed-answer none none-keeps (pair busy free) (pairs-idle .1 .entering) 0 turns 0 1 in
     let by-itself = computed-answer none none-keeps (alone 0 (pair busy free)) (pairs-idle .3 .entering) 0 (ownTurns 0 turns) 0 1 in
     eqb-false _ _ refl (sym together ∙ same ∙ by-itself)
 
@@ -109,7 +109,7 @@ f8-depends-on-the-order without =
     let one : List Turn = calls ∷ secondEnds ∷ [] in
     let other : List Turn = secondEnds ∷ calls ∷ [] in
     let same = without (pair busy busy) one other typed ready refl (swapped _ _) 0 0 1 in
-    let answer = computed-answer none none-keeps (pair busy busy) (idling typed ready .entering) 0 in
+    let answer = computed-answer none none-keeps (pair busy busy) (pairs-idle .2 .entering) 0 in
     eqb-false _ _ refl (sym (answer one 0 1) ∙ same ∙ answer other 0 1)
 
 forFirst-keeps : (bench : Bench) → Keeps (forFirst bench)
@@ -122,6 +122,6 @@ own-f8-is-refused undisturbed =
     let typed = pairs-are-typed .1 in
     let ready = pairs-are-ready .1 in
     let same = undisturbed .excepted (pair busy free) (calls ∷ []) typed ready refl 0 0 1 refl in
-    let by-events = computed (forFirst step) (forFirst-keeps step) (pair busy free) (idling typed ready .entering) in
-    let answer = computed-answer (forFirst step) (forFirst-keeps step) (pair busy free) (idling typed ready .entering) 0 (calls ∷ []) 0 1 in
+    let by-events = computed (forFirst step) (forFirst-keeps step) (pair busy free) (pairs-idle .1 .entering) in
+    let answer = computed-answer (forFirst step) (forFirst-keeps step) (pair busy free) (pairs-idle .1 .entering) 0 (calls ∷ []) 0 1 in
     eqb-false _ _ refl (sym answer ∙ same ∙ ap (λ (world : World). acknowledge (world .0)) (by-events (0x0100 ∷ []) .0))

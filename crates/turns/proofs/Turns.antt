@@ -11,15 +11,14 @@ use borrow.Author.Tests.{eqb-true, eqb-false}
 use Rattle.base.proofs.logic.Laws.{and-left, and-right}
 use Rattle.lineup.specs.Chips.{chipAt, placesOf}
 use Rattle.bus.specs.Step.{step}
-use Rattle.bus.proofs.Typed.{OfItsType}
 use Rattle.promises.specs.Playing.{World, after, answersTo}
 use Rattle.promises.proofs.Playing.{after-append}
 use Rattle.turns.specs.Seen.{seen}
 use Rattle.turns.specs.Turn.{Turn, isTurn}
 use Rattle.turns.specs.Shuffle.{areTurns, eventsOf, turnsOf, answersOf, isExcepted}
 use Rattle.turns.specs.Alone.{alone, renamed, ownTurn, ownTurns}
-use Rattle.turns.specs.Undisturbed.{Ready, Turns}
-use Rattle.turns.proofs.Entering.{entering-after, Idling, idling, ready-of}
+use Rattle.turns.specs.Undisturbed.{Turns}
+use Rattle.turns.proofs.Entering.{entering-after, Idling}
 use Rattle.turns.proofs.Seen.{never-seen}
 use Rattle.turns.proofs.Alone.{alone-seen}
 use Rattle.turns.proofs.Lists.{answers-cut}
@@ -73,11 +72,6 @@ turns-pass (turn ∷ rest) world waits are =
       rest = λ i past. later .rest i (omega (arith, past, first .count)) ∙ first .rest i past;
     }
     )
-
--- so turns may follow turns
-pub turns-end-ready : (turns : List Turn) (world : World) → OfItsType (world .0) → Ready world → Turns world turns
-    → let ends = after step world (eventsOf turns) in OfItsType (ends .0) × Ready ends
-turns-end-ready turns world typed ready are = ready-of (turns-pass turns world (idling typed ready) are .waits)
 
 pub ends-alone : (turns : List Turn) (world : World) → Idling world → Turns world turns → (k : ℕ) → k < world .0 .count
     → alone k (after step world (eventsOf turns)) ≡ seen (after step (alone k world) (eventsOf (ownTurns k turns)))

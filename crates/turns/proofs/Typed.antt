@@ -145,5 +145,5 @@ no-values-typed = record { long = length-replicate {A = ℕ} 256 0; bytes = zero
 -- a chip of a bus, alone on the line: its values are the bus's, or those
 pub alone-typed : (world : World) (k : ℕ) → k < 4 → OfItsType (world .0) → OfItsType (alone k world .0)
 alone-typed world k below typed =
-    bus-typed 1 _ _ (lit< tt) refl (chip-typed typed k below, (empty-typed, (empty-typed, (empty-typed, tt))))
+    bus-typed 1 _ _ _ (lit< tt) refl (chip-typed typed k below, (empty-typed, (empty-typed, (empty-typed, tt))))
     (either ValuesTyped (isLoading (chipAt (world .0 .chips) k)) (world .0 .values) noValues (values-typed typed) no-values-typed)

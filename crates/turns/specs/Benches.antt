@@ -37,7 +37,7 @@ abbrev pub shared : Fault
 shared world word made =
     let bus = busOf (ledTo made) in (
       record {
-        bus = record { count = bus .count; chips = map (movedTo (lineCounter (busOf world .chips) (bus .chips))) (bus .chips); values = bus .values };
+        bus = record { count = bus .count; started = bus .started; chips = map (movedTo (lineCounter (busOf world .chips) (bus .chips))) (bus .chips); values = bus .values };
         answer = made .0 .answer;
       },
       arrayOf made,

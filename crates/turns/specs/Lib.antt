@@ -6,3 +6,4 @@ pub mod Alone
 pub mod Playing
 pub mod Benches
 pub mod Undisturbed
+pub mod Remembering

@@ -15,7 +15,7 @@ abbrev pub anyLoading : Bus → Bool
 anyLoading bus = anyBelow (λ (i : ℕ). isLoading (chipAt (bus .chips) i)) (placed (bus .count))
 
 abbrev pub seenOf : Bus → Bus
-seenOf bus = record { count = bus .count; chips = bus .chips; values = cond (anyLoading bus) (bus .values) noValues }
+seenOf bus = record { count = bus .count; started = bus .started; chips = bus .chips; values = cond (anyLoading bus) (bus .values) noValues }
 
 abbrev pub seen : World → World
 seen world = (seenOf (busOf world), arrayOf world, securityOf world)

@@ -20,7 +20,7 @@ use Rattle.turns.specs.Idle.{isIdle}
 use Rattle.turns.specs.Seen.{seen}
 use Rattle.turns.specs.Turn.{Turn}
 use Rattle.turns.specs.Shuffle.{areTurns, eventsOf, Shuffle, turnOf, beganAt, answerOf, isExcepted}
-use Rattle.turns.specs.Alone.{alone, ownTurns}
+use Rattle.turns.specs.Alone.{alone, forgetting, ownTurns}
 use Rattle.turns.specs.Playing.{Ending, ending}
 
 -- turns may begin: the bus is well formed and idle, and its stores are of the right length
@@ -38,9 +38,10 @@ pub record Alike (turns others : List Turn) (one other : Ending) : Type 0 where
   pub ends : seen (one .0) ≡ seen (other .0)
   pub answers : (k j i : ℕ) → isExcepted (turnOf k turns j) i ≡ false → answerOf k turns (one .1) j i ≡ answerOf k others (other .1) j i
 
--- chip k ends as it does by itself, and its turns get the answers that it gives alone on the line
+-- chip k ends as it does by itself, and its turns get the answers that it gives alone on the line. Not compared is a Start that is remembered at the
+-- end (request E8): it is the line's, and the others' exchanges make it forget one
 pub record AsAlone (k : ℕ) (turns : List Turn) (one byItself : Ending) : Type 0 where
-  pub ends : alone k (one .0) ≡ seen (byItself .0)
+  pub ends : forgetting (alone k (one .0)) ≡ forgetting (seen (byItself .0))
   pub answers : (j i : ℕ) → isExcepted (turnOf k turns j) i ≡ false → answerOf k turns (one .1) j i ≡ answerOf 0 (ownTurns k turns) (byItself .1) j i
 
 -- some chip is not busy

@@ -1,5 +1,5 @@
 -- A chip's own part of what makes a state well formed, clause by clause (paper, "Well formed means").
-use mathlib.Core.Bool.{Bool, true, not, _&&_, _||_}
+use mathlib.Core.Bool.{Bool, true, cond, not, _&&_, _||_}
 use lib.Dec.{ltb}
 use Rattle.parts.specs.Part.{isPart, geometryOf}
 use Rattle.regions.specs.Page.{placeOf}
@@ -12,7 +12,7 @@ use Rattle.control.specs.declared.phase.Data.{Data}
 use Rattle.control.specs.declared.phase.Data.the-variants.{ToArray, ToSecurity, ToConfiguration, ToLock, ToNowhere}
 use Rattle.control.specs.declared.phase.Source.{Source}
 use Rattle.control.specs.declared.phase.Source.the-variants.{FromArray, FromSecurity, FromConfiguration, FromId, FromNothing}
-use Rattle.control.specs.Phase.{isBusy, takesData}
+use Rattle.control.specs.Phase.{isBusy, takesData, isSending, isTaking, awaitsAddress}
 use Rattle.chip.specs.declared.Chip.{Chip}
 
 -- set-up would pass 2 and 3
@@ -78,3 +78,9 @@ spanFits c span = insidePage (geometryOf (c .part) .page) span && (onlyDataLoads
 
 unfoldable pub wellFormed : Chip → Bool
 wellFormed c = controlFits (c .control) && spanFits (c .control) (c .span)
+
+-- while a Start is remembered, no chip is sending or taking anything but an address byte, and a chip awaits an address byte only while it is
+-- (request E8)
+abbrev pub heedsStart : Bool → Phase → Bool
+heedsStart started phase =
+    cond started (not (isSending phase) && (not (isTaking phase) || awaitsAddress phase)) (not (awaitsAddress phase))

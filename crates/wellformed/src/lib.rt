@@ -8,13 +8,16 @@ use control::Control;
 use control::phase::Data;
 use control::phase::Phase;
 use control::phase::Source;
+use control::phase::awaits_address;
 use control::phase::is_busy;
+use control::phase::is_sending;
+use control::phase::is_taking;
 use control::phase::takes_data;
 use load::Span;
 use parts::part::geometry_of;
 use parts::part::is_part;
 ghost use mathlib.Core.Path.{_≡_};
-ghost use Rattle.wellformed.specs.Wellformed.{isSetUp, countersFit, idPlaceFits, placeFits, busyNotChosen, controlFits, nextDataRunsOn, nextRunsOn, spanFits, wellFormed};
+ghost use Rattle.wellformed.specs.Wellformed.{isSetUp, countersFit, idPlaceFits, placeFits, busyNotChosen, controlFits, nextDataRunsOn, nextRunsOn, spanFits, wellFormed, heedsStart};
 
 // Configuration byte 0 has no bit but 1 and 0.
 const CONFIG0_END: u8 = 4;
@@ -125,4 +128,15 @@ pub fn well_formed(chip: Chip) -> bool
     let control = chip.control;
     let span = chip.span;
     and(control_fits(control), span_fits(control, span))
+}
+
+// While a Start is remembered a chip takes an address byte or nothing, and only then it awaits one (request E8).
+pub fn heeds_start(started: bool, phase: Phase) -> bool
+    ensures { λ r. ⌜ r ≡ heedsStart started phase ⌝ }
+{
+    let waits = awaits_address(phase);
+    if started {
+        return and(!is_sending(phase), or(!is_taking(phase), waits));
+    }
+    !waits
 }

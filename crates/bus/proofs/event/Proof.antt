@@ -13,12 +13,12 @@ module _ (c : tie.After-event-verdict) where
   entry = c .before .before .before
 
   decides : {v : Verdict} → c .event-verdict .result ≡ v
-      → let a = entry .args in let bus = busWith (a .count) (a .chips) (a .values .now) in
+      → let a = entry .args in let bus = busWith (a .count) (a .started) (a .chips) (a .values .now) in
       stepBy v bus (a .array .now) (a .security .now) (a .word) ≡ event bus (a .array .now) (a .security .now) (a .word)
   unfolding event
   decides is =
       let a = entry .args in
-      ap (λ (v : Verdict). stepBy v (busWith (a .count) (a .chips) (a .values .now)) (a .array .now) (a .security .now) (a .word)) (sym is ∙ c .event-verdict .ensures)
+      ap (λ (v : Verdict). stepBy v (busWith (a .count) (a .started) (a .chips) (a .values .now)) (a .array .now) (a .security .now) (a .word)) (sym is ∙ c .event-verdict .ensures)
 
 event-verdict-requires : tie.Need-event-verdict-requires
 event-verdict-requires c κs = search needs
@@ -48,7 +48,7 @@ returns-2 : tie.Need-returns-2
 returns-2 c =
     let v = c .before .before .before .before .before .before .before .before .before .before .before in let a = entry v .args in
     c .before .before .before .before .played .ensures
-    ∙ ap (λ (o : Addressed). played o (busWith (a .count) (a .chips) (a .values .now)) (a .array .now) (a .security .now)) (c .before .before .before .before .before .before .before .before .addressed-of .ensures)
+    ∙ ap (λ (o : Addressed). played o (busWith (a .count) (a .started) (a .chips) (a .values .now)) (a .array .now) (a .security .now)) (c .before .before .before .before .before .before .before .before .addressed-of .ensures)
     ∙ decides v (c .before .before .before .before .before .before .before .before .before .enum-told .given .1)
 
 pub event-spec : {M : Type 1} → statement M

@@ -34,7 +34,7 @@ returns : tie.Need-returns
 returns c =
     let decoded = c .before .before .before in
     let a = decoded .before .args in
-    sym (refused-first (decodeChecks (a .count) (a .word)) (onLine (a .count) (a .chips) (addressedOf (a .word))) _ (sym (decoded .decode-verdict .ensures) ∙ c .before .verdict .given .1))
+    sym (refused-first (decodeChecks (a .count) (a .word)) (onLine (a .count) (a .chips) (addressedOf (a .started) (a .word))) _ (sym (decoded .decode-verdict .ensures) ∙ c .before .verdict .given .1))
 
 returns-2 : tie.Need-returns-2
 returns-2 c =
@@ -42,7 +42,7 @@ returns-2 c =
     let a = decoded .before .args in
     c .line-verdict .ensures
     ∙ ap (λ (addressed : Addressed). firstOf (onLine (a .count) (a .chips) addressed)) (c .before .addressed-of .ensures)
-    ∙ sym (passed-first (decodeChecks (a .count) (a .word)) (onLine (a .count) (a .chips) (addressedOf (a .word))) (sym (decoded .decode-verdict .ensures) ∙ c .before .before .enum-told .given .1))
+    ∙ sym (passed-first (decodeChecks (a .count) (a .word)) (onLine (a .count) (a .chips) (addressedOf (a .started) (a .word))) (sym (decoded .decode-verdict .ensures) ∙ c .before .before .enum-told .given .1))
 
 pub event-verdict-spec : {M : Type 1} → statement M
 event-verdict-spec =

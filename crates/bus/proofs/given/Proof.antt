@@ -18,7 +18,7 @@ event-requires c κs = search needs
 returns : tie.Need-returns
 returns c =
     let a = c .before .before .before .before .before .args in
-    ap (λ (v : Verdict). stepGiven v (busWith (a .count) (a .chips) (a .values .now)) (a .array .now) (a .security .now) (a .word)) (sym (c .before .entry .given .1))
+    ap (λ (v : Verdict). stepGiven v (busWith (a .count) (a .started) (a .chips) (a .values .now)) (a .array .now) (a .security .now) (a .word)) (sym (c .before .entry .given .1))
 
 same-length : tie.Need-same-length
 same-length c = search needs
@@ -30,7 +30,7 @@ returns-2 : tie.Need-returns-2
 returns-2 c =
     let a = c .before .before .before .before .before .before .before .before .before .before .before .before .args in
     c .before .before .before .before .event .ensures
-    ∙ ap (λ (v : Verdict). stepGiven v (busWith (a .count) (a .chips) (a .values .now)) (a .array .now) (a .security .now) (a .word)) (sym (c .before .before .before .before .before .before .before .before .enum-told .given .1))
+    ∙ ap (λ (v : Verdict). stepGiven v (busWith (a .count) (a .started) (a .chips) (a .values .now)) (a .array .now) (a .security .now) (a .word)) (sym (c .before .before .before .before .before .before .before .before .enum-told .given .1))
 
 pub given-spec : {M : Type 1} → statement M
 given-spec =

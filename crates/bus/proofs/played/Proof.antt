@@ -1,4 +1,4 @@
--- The line's play, and the reply to what was said.
+-- The line's play, the reply to what was said, and whether a Start is remembered then.
 use Rattle.bus.specs.Step.{done, played}
 use Rattle.decode.specs.Decode.{eventOf}
 use mathlib.Core.Path.{ap}
@@ -12,6 +12,9 @@ play-requires c κs = search needs
 event-of-requires : tie.Need-event-of-requires
 event-of-requires c κs = search needs
 
+remembers-requires : tie.Need-remembers-requires
+remembers-requires c κs = search needs
+
 line-reply-requires : tie.Need-line-reply-requires
 line-reply-requires c κs = search needs
 
@@ -24,8 +27,8 @@ same-length-2 c = search needs
 returns : tie.Need-returns
 unfolding played
 returns c =
-    let a = c .before .before .before .before .before .before .before .before .before .before .before .before .before .args in
-    rw (c .line-reply .ensures, c .before .event-of .ensures) (ap (done (eventOf (a .addressed)) (a .count)) (c .before .before .before .before .before .before .before .play .ensures))
+    let a = c .before .before .before .before .before .before .before .before .before .before .before .before .before .before .args in
+    rw (c .line-reply .ensures, c .before .remembers .ensures, c .before .before .event-of .ensures) (ap (done (eventOf (a .addressed)) (a .count) (a .started)) (c .before .before .before .before .before .before .before .before .play .ensures))
 
 pub played-spec : {M : Type 1} → statement M
 played-spec =
@@ -33,6 +36,7 @@ played-spec =
     (tie.spec
     play-requires
     event-of-requires
+    remembers-requires
     line-reply-requires
     same-length
     same-length-2

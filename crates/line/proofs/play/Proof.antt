@@ -26,7 +26,7 @@ enum-known-event : tie.Need-enum-known-event
 enum-known-event c = search needs
 
 take-each-requires : tie.Need-take-each-requires
-take-each-requires c κs = search needs
+take-each-requires c κs = sym (c .before .before .before .before .event-of .ensures) ∙ c .before .before .event .given .1
 
 enum-known-event-2 : tie.Need-enum-known-event-2
 enum-known-event-2 c = search needs

@@ -15,14 +15,14 @@ use Rattle.line.proofs.take_each.Statement.{statement}
 use Rattle.line.proofs.take_each.Tie as tie
 
 abbrev Inv-loop : tie.InvT-loop
-Inv-loop addressed byte count values₀ n next₀ said₀ i₀ values next said i =
+Inv-loop addressed first byte count values₀ n next₀ said₀ i₀ values next said i =
     ((array security : List ℕ) → onLine next said array security ≡ upTo (chipTakes addressed values₀ (placesOf next₀)) i (onLine next₀ said₀ array security))
     × (values ≡ upTo (chipLoads addressed next₀) i values₀)
     × ((k : ℕ) → i ≤ k → chipAt next k ≡ chipAt next₀ k)
     × (i ≤ n)
 
 abbrev μ-loop : tie.MeasureT-loop
-μ-loop addressed byte count values₀ n next₀ said₀ i₀ values next said i = n - i
+μ-loop addressed first byte count values₀ n next₀ said₀ i₀ values next said i = n - i
 
 few : (c : tie.After-placed Inv-loop μ-loop) → c .placed .result ≤ 4
 few c = rw (c .placed .ensures) (placed-most (c .before .args .count))
@@ -66,10 +66,10 @@ loop-again c =
     let a = c .before .before .before .before .before .before .before .before .before .args in
     let q = c .before .before .take-if in
     let did = rw (c .before .before .before .before .reaches .ensures) at (q .ensures) in
-    let loads = takes-byte (a .addressed) (a .values .now) (placesOf (a .chips)) (l .i) (l .next) (l .said) [] [] (a .byte) (c .before .before .before .before .before .before .before .before .before .pre) (q .result) (l .values) (q .last .1 .1 .1 .0) did .1 in (
+    let loads = takes-byte (a .addressed) (a .values .now) (placesOf (a .chips)) (l .i) (l .next) (l .said) [] [] (a .first) (a .byte) (c .before .before .before .before .before .before .before .before .before .pre) (q .result) (l .values) (q .last .1 .1 .1 .1 .0) did .1 in (
       (λ array security.
           up-more _ _ _ (l .inv .0 array security)
-          (alone-lands (a .addressed) (a .values .now) (placesOf (a .chips)) (l .i) (l .next) (l .said) array security (q .result) (c .heard .result) (takes-byte (a .addressed) (a .values .now) (placesOf (a .chips)) (l .i) (l .next) (l .said) array security (a .byte) (c .before .before .before .before .before .before .before .before .before .pre) (q .result) (l .values) (q .last .1 .1 .1 .0) did .0) (c .heard .ensures))),
+          (alone-lands (a .addressed) (a .values .now) (placesOf (a .chips)) (l .i) (l .next) (l .said) array security (q .result) (c .heard .result) (takes-byte (a .addressed) (a .values .now) (placesOf (a .chips)) (l .i) (l .next) (l .said) array security (a .first) (a .byte) (c .before .before .before .before .before .before .before .before .before .pre) (q .result) (l .values) (q .last .1 .1 .1 .1 .0) did .0) (c .heard .ensures))),
       up-more _ _ _ (l .inv .1) (rw (← l .inv .2 (l .i) (omega arith)) loads),
       (λ k past. getD-set-other (l .next) (l .i) k (q .result .chip) noChip (λ (is : k ≡ l .i). absurd (omega arith)) ∙ l .inv .2 k (omega arith)),
       omega arith,

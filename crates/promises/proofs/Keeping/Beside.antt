@@ -21,6 +21,7 @@ use Rattle.control.proofs.phase.Laws.{busy-is, awaits-address-is, awaiting-is, 
 use Rattle.addressing.specs.declared.Call.{Call}
 use Rattle.addressing.specs.declared.Call.the-variants.{HostF8, HostF9, Nobody}
 use Rattle.addressing.specs.Address.{callOf, takeCall, takeAddress, takeChosen, takeChoice}
+use Rattle.addressing.proofs.Laws.{busy-either}
 use Rattle.taking.specs.Taking.{takeIn, take}
 use Rattle.sending.specs.Sending.{readIn, read}
 use Rattle.cycle.specs.Stop.{stopIn, stop}
@@ -188,12 +189,12 @@ abbrev answered : Control → ℕ → Bool
 answered c byte = answers (geometryOf (c .part)) (c .strap) (byte / 2 % 8)
 
 -- beside another that awaits, an active chip awaits an address
-listens : (c : Control) (byte : ℕ) (P : Control → Type 0) → isAwaiting (c .phase) ≡ true → (isActive c ≡ true → awaitsAddress (c .phase) ≡ true)
+listens : (c : Control) (first : Bool) (byte : ℕ) (P : Control → Type 0) → isAwaiting (c .phase) ≡ true → (isActive c ≡ true → awaitsAddress (c .phase) ≡ true)
     → ((after : Call → Control) → Hears c after → P (after (called c byte)))
-    → P (takeIn (c .phase) c byte .control)
+    → P (takeIn (c .phase) c first byte .control)
 unfolding takeAddress takeChoice
-listens c byte P waits settled all =
-    awaiting-is (c .phase) waits (λ (phase : Phase). (isActive c ≡ true → awaitsAddress phase ≡ true) → P (takeIn phase c byte .control))
+listens c first byte P waits settled all =
+    awaiting-is (c .phase) waits (λ (phase : Phase). (isActive c ≡ true → awaitsAddress phase ≡ true) → P (takeIn phase c first byte .control))
     (λ address. all _ (address-hears c))
     (λ address. all _ (choice-hears c (λ is. false≢true (address is))))
     settled
@@ -217,18 +218,20 @@ module _ (c d : Control) (b : Beside c d) (for-c for-d : Call → Control) (p : 
 abbrev Unshared : Control → Control → Type 0
 Unshared c d = shareAddress (geometryOf (c .part)) (c .strap) (geometryOf (d .part)) (d .strap) ≡ false
 
-both-hear : (c d : Control) (byte : ℕ) → Unshared c d → Beside c d → isAwaiting (c .phase) ≡ true → isAwaiting (d .phase) ≡ true → Beside (takeIn (c .phase) c byte .control) (takeIn (d .phase) d byte .control)
+both-hear : (c d : Control) (first : Bool) (byte : ℕ) → Unshared c d → Beside c d → isAwaiting (c .phase) ≡ true → isAwaiting (d .phase) ≡ true → Beside (takeIn (c .phase) c first byte .control) (takeIn (d .phase) d first byte .control)
 unfolding callOf
-both-hear c d byte unshared b is other =
+both-hear c d first byte unshared b is other =
     let shared = share-exactly-when _ (c .strap) _ (d .strap) (sound-of (c .part)) (sound-of (d .part)) .1 in
-    listens c byte (λ (x : Control). Beside x (takeIn (d .phase) d byte .control)) is (λ active. b .first active other) λ for-c p.
-    listens d byte (λ (y : Control). Beside (for-c (called c byte)) y) other (λ active. b .second active is) λ for-d q.
+    listens c first byte (λ (x : Control). Beside x (takeIn (d .phase) d first byte .control)) is (λ active. b .first active other) λ for-c p.
+    listens d first byte (λ (y : Control). Beside (for-c (called c byte)) y) other (λ active. b .second active is) λ for-d q.
     by-tests c d b for-c for-d p q (eqb byte 0xF8) (eqb byte 0xF9) (answered c byte) (answered d byte) _ _
     (λ mine yours. false≢true (sym unshared ∙ shared (byte / 2 % 8, (mine, yours))))
 
 -- an inert chip takes no notice of a byte, and one that awaits none of a read
-take-inert : (c : Control) (byte : ℕ) → Inert c → Inert (takeIn (c .phase) c byte .control)
-take-inert c byte inert = rests c inert (λ (phase : Phase). Inert (takeIn phase c byte .control)) inert inert
+take-inert : (c : Control) (first : Bool) (byte : ℕ) → Inert c → Inert (takeIn (c .phase) c first byte .control)
+take-inert c first byte inert =
+    rests c inert (λ (phase : Phase). Inert (takeIn phase c first byte .control)) inert
+    (busy-either c first byte (λ (x : Answered). Inert (x .control)) inert inert)
 
 read-inert : (c : Control) (array security : List ℕ) (nack : Bool) → Inert c → Inert (readIn (c .phase) c array security nack .control)
 read-inert c array security nack inert = rests c inert (λ (phase : Phase). Inert (readIn phase c array security nack .control)) inert inert
@@ -266,22 +269,22 @@ over-beside c d b =
         }
 
 -- the events that name one chip
-abbrev pub isNamed : Event → Bool
-isNamed Start = false
-isNamed Stop = false
-isNamed (Sent byte) = false
-isNamed (Read nack) = false
-isNamed (Wp level) = true
-isNamed CycleOver = true
-isNamed PowerUp = false
+abbrev pub namesAChip : Event → Bool
+namesAChip Start = false
+namesAChip Stop = false
+namesAChip (Sent first byte) = false
+namesAChip (Read nack) = false
+namesAChip (Wp level) = true
+namesAChip CycleOver = true
+namesAChip PowerUp = false
 
-pub named-kept : (c d : Chip) (values array security : List ℕ) (event : Event) → isNamed event ≡ true
+pub named-kept : (c d : Chip) (values array security : List ℕ) (event : Event) → namesAChip event ≡ true
     → sideBySide (c .control) (d .control) ≡ true
     → sideBySide (chip.step c values array security event .0 .chip .control) (d .control) ≡ true
 unfolding chip.step
 named-kept c d values array security Start named test = absurd (false≢true named)
 named-kept c d values array security Stop named test = absurd (false≢true named)
-named-kept c d values array security (Sent byte) named test = absurd (false≢true named)
+named-kept c d values array security (Sent first byte) named test = absurd (false≢true named)
 named-kept c d values array security (Read nack) named test = absurd (false≢true named)
 named-kept c d values array security (Wp level) named test = test
 named-kept c d values array security CycleOver named test = of-beside _ _ (over-beside c (d .control) (beside-of (c .control) (d .control) test))
@@ -295,8 +298,8 @@ module _ (c d : Chip) (values array security values′ array′ security′ : Li
   both-step Stop =
       unless-both-await _ _ b (inert-stops c values array security formed) (inert-stops d values′ array′ security′ formed′)
       (λ is other. inert-beside (awaiting-stops c values array security formed is))
-  both-step (Sent byte) =
-      unless-both-await _ _ b (take-inert (c .control) byte) (take-inert (d .control) byte) (both-hear _ _ byte unshared b)
+  both-step (Sent first byte) =
+      unless-both-await _ _ b (take-inert (c .control) first byte) (take-inert (d .control) first byte) (both-hear _ _ first byte unshared b)
   both-step (Read nack) =
       unless-both-await _ _ b (read-inert (c .control) array security nack) (read-inert (d .control) array′ security′ nack)
       (λ is other. rw (read-awaiting (c .control) array security nack is, read-awaiting (d .control) array′ security′ nack other) b)

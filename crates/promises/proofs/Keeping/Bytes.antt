@@ -33,7 +33,7 @@ use Rattle.control.specs.Control.{inPhase}
 use Rattle.addressing.specs.declared.Call.{Call}
 use Rattle.addressing.specs.declared.Call.the-variants.{ReadArray, WriteArray, ReadRegister, WriteRegister, HostF8, HostF9, Nobody}
 use Rattle.addressing.specs.Address.{callOf, takeCall, takeAddress}
-use Rattle.addressing.proofs.Laws.{choice-either}
+use Rattle.addressing.proofs.Laws.{choice-either, busy-either}
 use Rattle.wordaddress.specs.declared.Register.{Register}
 use Rattle.wordaddress.specs.declared.Register.the-variants.{Security, Configuration, Lock, Nowhere}
 use Rattle.wordaddress.specs.WordAddress.{registerOf, isLock, takeNamed, takeWord}
@@ -103,15 +103,15 @@ module _ (c : Control) (byte : ℕ) (now : ControlBytes c) (sent : FitsByte byte
   to-data (ToLock some) held = either Answers (c .idlocked) _ _ plain plain
   to-data ToNowhere held = plain
 
-  take-bytes : (phase : Phase) → AllBytes (bytesIn phase) → Answers (takeIn phase c byte)
+  take-bytes : (first : Bool) (phase : Phase) → AllBytes (bytesIn phase) → Answers (takeIn phase c first byte)
   unfolding takeAddress
-  take-bytes Standby held = (now, tt)
-  take-bytes Busy held = (now, tt)
-  take-bytes AwaitsAddress held = to-call (callOf (geometryOf (c .part)) (c .strap) byte)
-  take-bytes AwaitsChoice held = choice-either c byte Answers plain plain
-  take-bytes (AwaitsWord word) held = to-word word
-  take-bytes (TakesData kind) held = to-data kind held
-  take-bytes (SendsByte source) held = (now, tt)
+  take-bytes first Standby held = (now, tt)
+  take-bytes first Busy held = busy-either c first byte Answers (now, tt) (now, tt)
+  take-bytes first AwaitsAddress held = to-call (callOf (geometryOf (c .part)) (c .strap) byte)
+  take-bytes first AwaitsChoice held = choice-either c byte Answers plain plain
+  take-bytes first (AwaitsWord word) held = to-word word
+  take-bytes first (TakesData kind) held = to-data kind held
+  take-bytes first (SendsByte source) held = (now, tt)
 
 -- a byte read
 id-bytes : (part : ℕ) → AllBytes (geometryOf part .id)
@@ -200,7 +200,7 @@ zeros (suc n) = (omega arith, zeros n)
 
 pub values-stay-bytes : (c : Chip) (values : List ℕ) → AllBytes values → (event : Event) → EventByte event → AllBytes (chip.valuesAfter c event values)
 values-stay-bytes c values in-values event brought =
-    values-keep c values AllBytes in-values (zeros 256) event (λ byte is held place so-far. every-set FitsByte held place byte so-far (subst EventByte is brought))
+    values-keep c values AllBytes in-values (zeros 256) event (λ first byte is held place so-far. every-set FitsByte held place byte so-far (subst EventByte is brought))
 
 module _ (c : Chip) (values array security : List ℕ) (now : ChipBytes c) where
   stopped-bytes : ControlBytes (chip.stop c values array security .0 .control)
@@ -217,7 +217,7 @@ module _ (c : Chip) (values array security : List ℕ) (now : ChipBytes c) where
   unfolding chip.step take read
   chip-keeps-bytes Start brought = unless-busy c _ now (rests (c .control) now)
   chip-keeps-bytes Stop brought = stopped-bytes
-  chip-keeps-bytes (Sent byte) brought = take-bytes (c .control) byte now brought (c .control .phase) (now .1 .1) .0
+  chip-keeps-bytes (Sent first byte) brought = take-bytes (c .control) byte now brought first (c .control .phase) (now .1 .1) .0
   chip-keeps-bytes (Read nack) brought = read-bytes (c .control) array security now (c .control .phase) nack
   chip-keeps-bytes (Wp level) brought = now
   chip-keeps-bytes CycleOver brought = unless-busy _ c (rests (c .control) now) now
@@ -233,7 +233,7 @@ module _ (c : Chip) (values array security : List ℕ) (now : ChipBytes c) where
     unfolding chip.step take read
     in-said Start brought = tt
     in-said Stop brought = tt
-    in-said (Sent byte) brought = take-bytes (c .control) byte now brought (c .control .phase) (now .1 .1) .1
+    in-said (Sent first byte) brought = take-bytes (c .control) byte now brought first (c .control .phase) (now .1 .1) .1
     in-said (Read nack) brought = read-says (c .control) array security now in-array in-security (c .control .phase) nack
     in-said (Wp level) brought = tt
     in-said CycleOver brought = tt

@@ -26,7 +26,7 @@ use Rattle.control.specs.Control.{inPhase, showing, choosing, arraycounterAt, s
 use Rattle.addressing.specs.declared.Call.{Call}
 use Rattle.addressing.specs.declared.Call.the-variants.{ReadArray, WriteArray, ReadRegister, WriteRegister, HostF8, HostF9, Nobody}
 use Rattle.addressing.specs.Address.{callOf, takeCall, takeAddress}
-use Rattle.addressing.proofs.Laws.{choice-either}
+use Rattle.addressing.proofs.Laws.{choice-either, busy-either}
 use Rattle.wordaddress.specs.declared.Register.{Register}
 use Rattle.wordaddress.specs.declared.Register.the-variants.{Security, Configuration, Lock, Nowhere}
 use Rattle.wordaddress.specs.WordAddress.{registerOf, isLock, takeNamed, takeWord}
@@ -89,15 +89,15 @@ module _ (P : Control → Type 0) (closed : Closed P) where
   data-keeps (ToLock some) c byte p = told (c .idlocked) _ _ (closed .phase c _ p) (closed .phase c _ p)
   data-keeps ToNowhere c byte p = closed .phase c _ p
 
-  take-keeps : (phase : Phase) (c : Control) (byte : ℕ) → P c → P (takeIn phase c byte .control)
+  take-keeps : (phase : Phase) (c : Control) (first : Bool) (byte : ℕ) → P c → P (takeIn phase c first byte .control)
   unfolding takeAddress
-  take-keeps Standby c byte p = p
-  take-keeps Busy c byte p = p
-  take-keeps AwaitsAddress c byte p = call-keeps (callOf (geometryOf (c .part)) (c .strap) byte) c p
-  take-keeps AwaitsChoice c byte p = choice-either c byte (λ (x : Answered). P (x .control)) (after c true _ p) (closed .phase c _ p)
-  take-keeps (AwaitsWord word) c byte p = word-keeps word c byte p
-  take-keeps (TakesData kind) c byte p = data-keeps kind c byte p
-  take-keeps (SendsByte source) c byte p = p
+  take-keeps Standby c first byte p = p
+  take-keeps Busy c first byte p = busy-either c first byte (λ (x : Answered). P (x .control)) p p
+  take-keeps AwaitsAddress c first byte p = call-keeps (callOf (geometryOf (c .part)) (c .strap) byte) c p
+  take-keeps AwaitsChoice c first byte p = choice-either c byte (λ (x : Answered). P (x .control)) (after c true _ p) (closed .phase c _ p)
+  take-keeps (AwaitsWord word) c first byte p = word-keeps word c byte p
+  take-keeps (TakesData kind) c first byte p = data-keeps kind c byte p
+  take-keeps (SendsByte source) c first byte p = p
 
   moved-keeps : (source : Source) (c : Control) → P c → P (movedPast source c)
   moved-keeps FromArray c p = closed .array c _ p
@@ -145,7 +145,7 @@ module _ (P : Control → Type 0) (closed : Closed P) where
   step-keeps c values array security Stop p =
       either (λ (x : Chip × List ℕ × List ℕ). P (x .0 .control)) (isBusy (c .control .phase)) (c, array, security) _ p
       (stop-keeps (c .control .phase) (c .control) (loadOf (c .span) values) array security p)
-  step-keeps c values array security (Sent byte) p = take-keeps (c .control .phase) (c .control) byte p
+  step-keeps c values array security (Sent first byte) p = take-keeps (c .control .phase) (c .control) first byte p
   step-keeps c values array security (Read nack) p = read-keeps (c .control .phase) (c .control) array security nack p
   step-keeps c values array security (Wp level) p = closed .wp _ level p
   step-keeps c values array security CycleOver p = either (λ (x : Chip). P (x .control)) (isBusy (c .control .phase)) _ c (closed .phase _ _ p) p

@@ -1,6 +1,7 @@
 -- What holds of the values of a line and of those where no byte has come, and stays so where a byte sent is put in its place, holds of them after
 -- every event.
 use Prim.Native.Nat.{ℕ}
+use mathlib.Core.Bool.{Bool}
 use mathlib.Core.List.{List}
 use mathlib.Core.Path.{_≡_, refl}
 use lib.ListN.{set}
@@ -44,11 +45,11 @@ module _ (c : Chip) (values : List ℕ) (P : List ℕ → Type 0) (now : P value
   to-phase (TakesData kind) byte with = to-data kind byte with
   to-phase (SendsByte source) byte with = now
 
-  pub values-keep : (event : Event) → ((byte : ℕ) → event ≡ Sent byte → Keeps byte) → P (valuesAfter c event values)
+  pub values-keep : (event : Event) → ((first : Bool) (byte : ℕ) → event ≡ Sent first byte → Keeps byte) → P (valuesAfter c event values)
   unfolding valuesAfter taking.valuesAfter
   values-keep Start with = now
   values-keep Stop with = now
-  values-keep (Sent byte) with = to-phase (c .control .phase) byte (with byte refl)
+  values-keep (Sent first byte) with = to-phase (c .control .phase) byte (with first byte refl)
   values-keep (Read nack) with = now
   values-keep (Wp level) with = now
   values-keep CycleOver with = now

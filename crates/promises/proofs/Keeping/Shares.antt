@@ -21,7 +21,7 @@ module _ (c : Chip) (values array security : List ℕ) (P : List ℕ → List �
   shares-keep Stop =
       either (λ (x : Chip × List ℕ × List ℕ). P (x .1) (x .2)) (isBusy (c .control .phase)) (c, array, security) _ now
       (stop-either (c .control) (loadOf (c .span) values) array security (λ (x : Control × List ℕ × List ℕ). P (x .1) (x .2)) (c .control .phase) (λ busy. now) now (λ kind takes. ends kind))
-  shares-keep (Sent byte) = now
+  shares-keep (Sent first byte) = now
   shares-keep (Read nack) = now
   shares-keep (Wp level) = now
   shares-keep CycleOver = now

@@ -31,7 +31,7 @@ use Rattle.control.specs.Said.{acked, silent}
 use Rattle.addressing.specs.declared.Call.{Call}
 use Rattle.addressing.specs.declared.Call.the-variants.{ReadArray, WriteArray, ReadRegister, WriteRegister, HostF8, HostF9, Nobody}
 use Rattle.addressing.specs.Address.{callOf, sourceOf, takeCall, takeAddress, takeChoice}
-use Rattle.addressing.proofs.Laws.{choice-either}
+use Rattle.addressing.proofs.Laws.{choice-either, busy-either}
 use Rattle.wordaddress.specs.declared.Register.{Register}
 use Rattle.wordaddress.specs.declared.Register.the-variants.{Security, Configuration, Lock, Nowhere}
 use Rattle.wordaddress.specs.WordAddress.{registerOf, isLock, takeNamed, takeWord}
@@ -112,15 +112,15 @@ module _ (c : Control) (span : Span) (f : Fits c) (inside : Inside c span) where
   data-good ToNowhere byte runs = loads c span f _ inside refl
 
 -- a byte sent
-pub take-good : (phase : Phase) (c : Control) (span : Span) (byte : ℕ) → c .phase ≡ phase → Good c span → Good (takeIn phase c byte .control) (spanIn phase span c)
+pub take-good : (phase : Phase) (c : Control) (span : Span) (first : Bool) (byte : ℕ) → c .phase ≡ phase → Good c span → Good (takeIn phase c first byte .control) (spanIn phase span c)
 unfolding takeAddress
-take-good Standby c span byte is good = good
-take-good Busy c span byte is good = good
-take-good AwaitsAddress c span byte is good = call-good c span (good .0) (unloaded-of c span (ap takesData is) (good .1)) (callOf (geometryOf (c .part)) (c .strap) byte)
-take-good AwaitsChoice c span byte is good = chosen-good c span (good .0) (unloaded-of c span (ap takesData is) (good .1)) byte
-take-good (AwaitsWord word) c span byte is good = word-good c span (good .0) (unloaded-of c span (ap takesData is) (good .1)) word byte
-take-good (TakesData kind) c span byte is good =
+take-good Standby c span first byte is good = good
+take-good Busy c span first byte is good = busy-either c first byte (λ (x : Answered). Good (x .control) span) good good
+take-good AwaitsAddress c span first byte is good = call-good c span (good .0) (unloaded-of c span (ap takesData is) (good .1)) (callOf (geometryOf (c .part)) (c .strap) byte)
+take-good AwaitsChoice c span first byte is good = chosen-good c span (good .0) (unloaded-of c span (ap takesData is) (good .1)) byte
+take-good (AwaitsWord word) c span first byte is good = word-good c span (good .0) (unloaded-of c span (ap takesData is) (good .1)) word byte
+take-good (TakesData kind) c span first byte is good =
     let clauses : (onlyDataLoads c span && nextRunsOn (c .phase) c span) ≡ true = and-right (insidePage (page c) span) _ (good .1) in
     data-good c span (good .0) (inside-of c span (good .1)) kind byte
     (subst (λ (phase : Phase). nextRunsOn phase c span ≡ true) is (and-right (onlyDataLoads c span) _ clauses))
-take-good (SendsByte source) c span byte is good = good
+take-good (SendsByte source) c span first byte is good = good

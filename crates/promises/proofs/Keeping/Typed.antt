@@ -201,4 +201,4 @@ chip-typed-kept c values array security event brought formed typed =
 -- and the length of the values
 pub values-long-kept : (c : Chip) (values : List ℕ) (event : Event) → length values ≡ 256 → length (valuesAfter c event values) ≡ 256
 values-long-kept c values event long =
-    values-keep c values (λ (held : List ℕ). length held ≡ 256) long (length-replicate {A = ℕ} 256 0) event (λ byte is held place so-far. length-set held place byte ∙ so-far)
+    values-keep c values (λ (held : List ℕ). length held ≡ 256) long (length-replicate {A = ℕ} 256 0) event (λ first byte is held place so-far. length-set held place byte ∙ so-far)

@@ -49,7 +49,7 @@ unfolding step stop
 unloaded-blind c values others array security Start empty = refl
 unloaded-blind c values others array security Stop empty =
     rw (stop-blind (c .control) (c .span) values others array security empty (c .control .phase))
-unloaded-blind c values others array security (Sent byte) empty = refl
+unloaded-blind c values others array security (Sent first byte) empty = refl
 unloaded-blind c values others array security (Read nack) empty = refl
 unloaded-blind c values others array security (Wp level) empty = refl
 unloaded-blind c values others array security CycleOver empty = refl
@@ -91,7 +91,7 @@ module _ (c : Chip) (values array security : List ℕ) (empty : isEmpty (c .span
   step-leaves Start = either (λ (x : Chip). Leaves (isEmpty (x .span)) (λ held. held)) (isBusy (c .control .phase)) c _ stays drops
   step-leaves Stop =
       either (λ (x : Chip × List ℕ × List ℕ). Leaves (isEmpty (x .0 .span)) (λ held. held)) (isBusy (c .control .phase)) (c, array, security) _ stays drops
-  step-leaves (Sent byte) = take-leaves (c .control .phase) byte
+  step-leaves (Sent first byte) = take-leaves (c .control .phase) byte
   step-leaves (Read nack) = stays
   step-leaves (Wp level) = stays
   step-leaves CycleOver = either (λ (x : Chip). Leaves (isEmpty (x .span)) (λ held. held)) (isBusy (c .control .phase)) _ c stays stays

@@ -78,7 +78,7 @@ module _ (c : Chip) (values array security : List ℕ) (good : Good (c .control)
   unfolding chip.step spanAfter take read
   step-good Start = start-good
   step-good Stop = stop-good
-  step-good (Sent byte) = take-good (c .control .phase) (c .control) (c .span) byte refl good
+  step-good (Sent first byte) = take-good (c .control .phase) (c .control) (c .span) first byte refl good
   step-good (Read nack) = read-good (c .control .phase) (c .control) (c .span) array security nack refl good
   step-good (Wp level) = (wp-fits (c .control) (good .0) level, wp-spans (c .control) (c .span) level (good .1))
   step-good CycleOver = over-good

@@ -72,13 +72,16 @@ module _ (count : ℕ) (started : Bool) (chips : List Chip) where
       (and-both (chipsFit count chips) _ (all-each fits (placed count) (formed .fit))
       (and-both (chipsApart count chips) _ (all-pairs-each beside (placed count) (formed .apart)) (all-each heeds (placed count) (formed .heed))))
 
--- no two chips answer one code: the last of set-up's checks
+-- no two chips match one address byte: the last of set-up's checks, of places and of chips
+pub unshared-places : {count : ℕ} {started : Bool} {chips : List Chip} → Formed count started chips → (i j : ℕ) → i < placed count → j < i → sharedAddress (placesOf chips) i j ≡ false
+unfolding boardVerdict
+unshared-places {count} {started} {chips} formed i j =
+    any-pair-none (sharedAddress (placesOf chips)) (placed count) i j (none-holds (boardChecks count (placesOf chips)) (formed .set-up) .1 .1 .1 .0)
+
 pub unshared : {count : ℕ} {started : Bool} {chips : List Chip} → Formed count started chips → (i j : ℕ) → i < placed count → j < i
     → let c = controlAt chips i in let d = controlAt chips j in shareAddress (geometryOf (c .part)) (c .strap) (geometryOf (d .part)) (d .strap) ≡ false
-unfolding boardVerdict
 unshared {count} {started} {chips} formed i j below before =
-    rw (place-at chips i (omega (arith, placed-most count)), place-at chips j (omega (arith, placed-most count))) at
-    (any-pair-none (sharedAddress (placesOf chips)) (placed count) i j (none-holds (boardChecks count (placesOf chips)) (formed .set-up) .1 .1 .1 .0) below before)
+    rw (place-at chips i (omega (arith, placed-most count)), place-at chips j (omega (arith, placed-most count))) at (unshared-places formed i j below before)
 
 -- what the checks at entry ask
 pub right-lengths : (count : ℕ) (places : List Place) (array security : ℕ) → wrongLength count places array security ≡ false

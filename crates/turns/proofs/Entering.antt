@@ -1,9 +1,9 @@
 -- A bus that is a value of its type and passes the checks at entry: every step leads from such a bus to such a bus. And one that is idle and remembers
 -- no Start: so does every turn.
 use Prim.Native.Nat.{ℕ}
-use mathlib.Core.Bool.{true, false}
+use mathlib.Core.Bool.{Bool, true, false}
 use mathlib.Core.List.{List, [], _∷_}
-use mathlib.Core.Path.{_≡_}
+use mathlib.Core.Path.{_≡_, refl}
 use Rattle.refusal.specs.declared.Verdict.the-variants.{Passed}
 use Rattle.refusal.specs.Checks.{firstOf}
 use Rattle.bus.specs.Step.{entryChecks, step}
@@ -11,6 +11,7 @@ use Rattle.bus.proofs.Typed.{OfItsType}
 use Rattle.promises.specs.Playing.{World, afterOne, after}
 use Rattle.promises.proofs.Runs.{step-keeps}
 use Rattle.turns.specs.Idle.{isIdle}
+use Rattle.turns.specs.Alone.{withStart}
 use Rattle.turns.specs.Undisturbed.{Ready}
 
 pub record Entering (world : World) : Type 0 where
@@ -31,6 +32,11 @@ pub record Idling (world : World) : Type 0 where
   pub entering : Entering world
   pub idle : isIdle (world .0) ≡ true
   pub forgot : world .0 .started ≡ false
+
+-- what the line remembers has no part in being idle
+pub idle-whatever-is-remembered : (started : Bool) (world : World) → isIdle (withStart started world .0) ≡ isIdle (world .0)
+unfolding isIdle
+idle-whatever-is-remembered started world = refl
 
 pub idling : {world : World} → OfItsType (world .0) → Ready world → world .0 .started ≡ false → Idling world
 idling typed ready forgot = record { entering = record { typed = typed; enters = ready .enters }; idle = ready .idle; forgot = forgot }

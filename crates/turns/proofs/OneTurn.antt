@@ -11,14 +11,14 @@ use lib.ListN.{getD}
 use borrow.Author.Tests.{eqb-true, eqb-false, ltb-true}
 use Rattle.base.specs.Fold.{upTo}
 use Rattle.base.proofs.logic.Laws.{and-left, and-right}
-use Rattle.base.proofs.Fold.{all-at, all-each, any-pair-none}
+use Rattle.base.proofs.Fold.{all-at, all-each}
 use Rattle.parts.specs.Part.{geometryOf}
 use Rattle.parts.specs.Address.{shareAddress}
 use Rattle.load.specs.Load.{noValues}
 use Rattle.chip.specs.declared.Chip.{Chip}
 use Rattle.board.specs.declared.Place.{Place}
 use Rattle.board.specs.Place.{placeAt, placed}
-use Rattle.board.specs.Board.{sharedAddress, boardChecks, boardVerdict}
+use Rattle.board.specs.Board.{sharedAddress}
 use Rattle.board.proofs.Laws.{shared-sym}
 use Rattle.lineup.specs.Chips.{chipAt, placesOf}
 use Rattle.lineup.proofs.Laws.{place-at}
@@ -27,7 +27,7 @@ use Rattle.bus.specs.Step.{step}
 use Rattle.bus.proofs.Entry.{Entered, entered}
 use Rattle.bus.proofs.Typed.{OfItsType}
 use Rattle.promises.specs.Playing.{World, after, answersTo}
-use Rattle.promises.proofs.Formed.{none-holds, formed-of}
+use Rattle.promises.proofs.Formed.{Formed, formed-of, unshared-places}
 use Rattle.turns.specs.Idle.{isAtRest, isIdle}
 use Rattle.turns.specs.Seen.{seen}
 use Rattle.turns.specs.Turn.{Turn, Anything, isTurnAt, isTurn}
@@ -66,21 +66,15 @@ module _ (began : World) (waits : Idling began) where
   at-rest : (j : ℕ) → j < count → isAtRest (chipAt chips j) ≡ true
   at-rest = rests-at began (ready-of waits .1)
 
-  -- no two chips match one address byte: the last of set-up's checks
-  apart : (i j : ℕ) → i < count → j < i → sharedAddress places i j ≡ false
-  unfolding boardVerdict
-  apart i j below before =
-      any-pair-none (sharedAddress places) (placed count) i j
-      (none-holds (boardChecks count places) (formed-of count (began .0 .started) chips (entry .formed) .set-up) .1 .1 .1 .0)
-      (omega (arith, entry .all-placed))
-      before
-
   unshared : (k j : ℕ) → k < count → j < count → (j ≡ k → ⊥) → sharedAddress places k j ≡ false
   unshared k j below before differ = go (decLt j k)
     where
+      formed : Formed count (began .0 .started) chips
+      formed = formed-of count (began .0 .started) chips (entry .formed)
+
       go : Dec (j < k) → sharedAddress places k j ≡ false
-      go (yes p) = apart k j below p
-      go (no p) = shared-sym places k j ∙ apart j k before (omega (arith, differ))
+      go (yes p) = unshared-places formed k j (omega (arith, entry .all-placed)) p
+      go (no p) = shared-sym places k j ∙ unshared-places formed j k (omega (arith, entry .all-placed)) (omega (arith, differ))
 
   others : (k : ℕ) → k < count → Others k (placeAt places k) began
   others k below =

@@ -27,7 +27,7 @@ use Rattle.turns.specs.Remembering.{hasStart, remembered, AsWithout}
 use Rattle.turns.specs.Playing.{ending}
 use Rattle.turns.specs.Benches.{ourBench}
 use Rattle.turns.specs.Undisturbed.{Ready, Turns, Alike, AsAlone, Undisturbed}
-use Rattle.turns.proofs.Entering.{Idling, ready-of}
+use Rattle.turns.proofs.Entering.{Idling, idle-whatever-is-remembered, ready-of}
 use Rattle.turns.proofs.Lists.{answer-at, excepted-inside, excepted-at, shuffle-turns}
 use Rattle.turns.proofs.OneTurn.{alone-idles}
 use Rattle.turns.proofs.Renamed.{own-turns-are-turns}
@@ -56,11 +56,6 @@ none-loads {world} waits =
     not-true _ (and-left _ _ (and-right (not (isSending (c .control .phase)) && not (isTaking (c .control .phase))) _ rest)))
 
 -- from a bus that remembers no Start
-by-itself : (world : World) (turns : List Turn) → Idling world → Turns world turns → (k : ℕ) → k < world .0 .count
-    → AsAlone k turns (ending step world turns) (ending step (alone k world) (ownTurns k turns))
-by-itself world turns waits are k below =
-    record { ends = ap forgetting (ends-alone turns world waits are k below); answers = answers-alone k turns world waits are below }
-
 module _ (world : World) (turns others : List Turn) (waits : Idling world) (are : Turns world turns) (shuffle : Shuffle turns others) where
   are-too : Turns world others
   are-too = shuffle-turns (world .0 .count) (placesOf (world .0 .chips)) turns others are shuffle
@@ -88,9 +83,9 @@ module _ (world : World) (turns others : List Turn) (waits : Idling world) (are 
     where
       go : Dec (k < world .0 .count) → answerOf k turns (answersTo step world (eventsOf turns)) j i ≡ answerOf k others (answersTo step world (eventsOf others)) j i
       go (yes p) =
-          by-itself world turns waits are k p .answers j i usual
+          answers-alone k turns world waits are p j i usual
           ∙ ap (λ (own : List Turn). answerOf 0 own (answersTo step (alone k world) (eventsOf own)) j i) (own-same k)
-          ∙ sym (by-itself world others waits are-too k p .answers j i (ap (λ (own : List (List ℕ)). isExcepted (getD own j []) i) (sym (shuffle k)) ∙ usual))
+          ∙ sym (answers-alone k others world waits are-too p j i (ap (λ (own : List (List ℕ)). isExcepted (getD own j []) i) (sym (shuffle k)) ∙ usual))
       go (no p) =
           rw (
             no-answers (world .0 .count) (placesOf (world .0 .chips)) k turns (answersTo step world (eventsOf turns)) are (omega arith),
@@ -103,32 +98,27 @@ module _ (world : World) (turns : List Turn) (typed : OfItsType (world .0)) (rea
   started = world .0 .started
 
   waits : Idling (forgetting world)
-  unfolding isIdle
-  waits = record { entering = idle-enters false world typed ready; idle = ready .idle; forgot = refl }
+  waits = record { entering = idle-enters false world typed ready; idle = idle-whatever-is-remembered false world ∙ ready .idle; forgot = refl }
 
   alike : AsWithout started (eventsOf turns) (forgetting world)
   alike = let (typed, ready) = ready-of waits in turns-alike started (forgetting world) typed ready turns are
 
   pub turns-end-ready : let ends = after step world (eventsOf turns) in OfItsType (ends .0) × Ready ends
-  unfolding isIdle
   turns-end-ready =
       let ends = after step (forgetting world) (eventsOf turns) in
       let (typed-then, ready-then) = ready-of (turns-pass turns (forgetting world) waits are .waits) in
       let now = remembered started (eventsOf turns) ends in
       let entering = idle-enters now ends typed-then ready-then in
-      subst (λ (w : World). OfItsType (w .0) × Ready w) (sym (alike .ends)) (entering .typed, record { enters = entering .enters; idle = ready-then .idle })
+      subst (λ (w : World). OfItsType (w .0) × Ready w) (sym (alike .ends)) (entering .typed, record { enters = entering .enters; idle = idle-whatever-is-remembered now ends ∙ ready-then .idle })
 
   own-by-itself : (k : ℕ) → k < world .0 .count → AsAlone k turns (ending step world turns) (ending step (alone k world) (ownTurns k turns))
   own-by-itself k below =
       record {
-        ends = ap (λ (w : World). forgetting (alone k w)) (alike .ends) ∙ base .ends ∙ sym (ap (λ (w : World). forgetting (seen w)) (own .ends));
+        ends = ap (λ (w : World). forgetting (alone k w)) (alike .ends) ∙ ap forgetting (ends-alone turns (forgetting world) waits are k below) ∙ sym (ap (λ (w : World). forgetting (seen w)) (own .ends));
         answers = λ j i usual.
-            ap (λ (answers : List ℕ). answerOf k turns answers j i) (alike .answers) ∙ base .answers j i usual ∙ sym (ap (λ (answers : List ℕ). answerOf 0 (ownTurns k turns) answers j i) (own .answers));
+            ap (λ (answers : List ℕ). answerOf k turns answers j i) (alike .answers) ∙ answers-alone k turns (forgetting world) waits are below j i usual ∙ sym (ap (λ (answers : List ℕ). answerOf 0 (ownTurns k turns) answers j i) (own .answers));
       }
     where
-      base : AsAlone k turns (ending step (forgetting world) turns) (ending step (alone k (forgetting world)) (ownTurns k turns))
-      base = by-itself (forgetting world) turns waits are k below
-
       own : AsWithout started (eventsOf (ownTurns k turns)) (alone k (forgetting world))
       own =
           let (typed-own, ready-own) = ready-of (alone-idles (forgetting world) waits k below) in

@@ -32,10 +32,10 @@ pub count-fits : {bus : Bus} → OfItsType bus → bus .count < 2 ^ 64
 count-fits typed = typed .is .1 .1 .0 .1
 
 pub has-four : {bus : Bus} → OfItsType bus → length (bus .chips) ≡ 4
-has-four {bus} typed = sym (length-map (bus .chips) _) ∙ typed .is .1 .1 .1 .1 .0 .1 .0 .1
+has-four {bus} typed = sym (length-map (bus .chips) _) ∙ typed .is .1 .1 .1 .0 .1 .0 .1
 
 pub every-typed : {bus : Bus} → OfItsType bus → Every ChipTyped (bus .chips)
-every-typed {bus} typed = each-every _ _ ChipTyped (λ c u is. record { value = u; is = is }) (bus .chips) _ (typed .is .1 .1 .1 .1 .0 .1 .1)
+every-typed {bus} typed = each-every _ _ ChipTyped (λ c u is. record { value = u; is = is }) (bus .chips) _ (typed .is .1 .1 .1 .0 .1 .1)
 
 -- 256 values, each a byte
 pub record ValuesTyped (values : List ℕ) : Type 0 where
@@ -44,7 +44,7 @@ pub record ValuesTyped (values : List ℕ) : Type 0 where
 
 pub values-typed : {bus : Bus} → OfItsType bus → ValuesTyped (bus .values)
 values-typed {bus} typed =
-    let is = typed .is .1 .1 .1 .1 .1 .0 in
+    let is = typed .is .1 .1 .1 .1 .0 in
     record { long = length-unmapped _ (bus .values) 256 (is .1 .0 .1); bytes = each-every _ _ FitsByte (λ n v byte. byte .1) (bus .values) _ (is .1 .1) }
 
 -- and nothing else is asked of it
@@ -55,7 +55,7 @@ bus-typed count started chips values fits four typed held =
     let kept = every-each (λ (n : ℕ). n) (u8 .own) FitsByte (λ n fits. vint w8 n) (λ n fits. (refl, fits)) values (held .bytes) in
     record {
       values = _;
-      is = ((_, (_, (_, (_, tt)))), (refl, ((refl, fits), (refl, ((made .0, ((refl, length-map chips _ ∙ four), made .1)), ((kept .0, ((refl, length-map values _ ∙ held .long), kept .1)), tt))))));
+      is = ((_, (_, (_, (_, tt)))), (refl, ((refl, fits), ((made .0, ((refl, length-map chips _ ∙ four), made .1)), ((kept .0, ((refl, length-map values _ ∙ held .long), kept .1)), (refl, tt))))));
     }
 
 -- one of its chips

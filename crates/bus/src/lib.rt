@@ -29,12 +29,13 @@ ghost use Rattle.bus.specs.Step.{entryChecks, chipChecks, busWith, hande
 ghost use mathlib.Core.List.{[]};
 ghost use Rattle.bus.specs.Run.{runUpTo, outcome, run};
 
-// `started`: a Start is remembered, so that the next byte sent is an address byte, whoever is busy (request E8).
+// `started`: a Start is remembered, so that the next byte sent is an address byte, whoever is busy (request E8). It stands last, so that the chips
+// lie where copying them is cheap.
 pub struct Bus {
     pub count: usize,
-    pub started: bool,
     pub chips: [Chip; PLACES],
     pub values: [u8; PAGE_MOST],
+    pub started: bool,
 }
 
 pub struct SetUp {
@@ -59,9 +60,9 @@ impl Bus {
     {
         Bus {
             count: 0,
-            started: false,
             chips: [Chip::fresh(0, 0); PLACES],
             values: [0; PAGE_MOST],
+            started: false,
         }
     }
 
@@ -78,9 +79,9 @@ impl Bus {
             Verdict::Passed => SetUp {
                 bus: Bus {
                     count,
-                    started: false,
                     chips: fresh_chips(count, places),
                     values: [0; PAGE_MOST],
+                    started: false,
                 },
                 verdict: Verdict::Passed,
             },
@@ -162,9 +163,9 @@ impl Bus {
         Stepped {
             bus: Bus {
                 count,
-                started: done.started,
                 chips: next,
                 values,
+                started: done.started,
             },
             answer,
         }
@@ -259,9 +260,9 @@ fn remembers(event: Event, started: bool) -> bool
 
 // What an event leaves, and its answer. Values and stores are lent, so that they are not copied from function to function.
 struct Done {
-    started: bool,
     chips: [Chip; PLACES],
     answer: Answer,
+    started: bool,
 }
 
 fn played(
@@ -280,9 +281,9 @@ fn played(
     let said = world.said;
     let event = event_of(addressed);
     Done {
-        started: remembers(event, started),
         chips: next,
         answer: Answer::Done(line_reply(event, said)),
+        started: remembers(event, started),
     }
 }
 
@@ -301,9 +302,9 @@ fn event(
     let verdict = event_verdict(count, started, chips, word);
     match verdict {
         Verdict::Refused(refusal) => Done {
-            started,
             chips,
             answer: Answer::Refused(refusal),
+            started,
         },
         Verdict::Passed => played(
             addressed_of(started, word),
@@ -332,9 +333,9 @@ fn given(
 {
     match entry {
         Verdict::Refused(refusal) => Done {
-            started,
             chips,
             answer: Answer::Refused(refusal),
+            started,
         },
         Verdict::Passed => event(count, started, chips, values, array, security, word),
     }

@@ -12,11 +12,11 @@ play-requires c κs = search needs
 event-of-requires : tie.Need-event-of-requires
 event-of-requires c κs = search needs
 
-remembers-requires : tie.Need-remembers-requires
-remembers-requires c κs = search needs
-
 line-reply-requires : tie.Need-line-reply-requires
 line-reply-requires c κs = search needs
+
+remembers-requires : tie.Need-remembers-requires
+remembers-requires c κs = search needs
 
 same-length : tie.Need-same-length
 same-length c = search needs
@@ -28,7 +28,7 @@ returns : tie.Need-returns
 unfolding played
 returns c =
     let a = c .before .before .before .before .before .before .before .before .before .before .before .before .before .before .args in
-    rw (c .line-reply .ensures, c .before .remembers .ensures, c .before .before .event-of .ensures) (ap (done (eventOf (a .addressed)) (a .count) (a .started)) (c .before .before .before .before .before .before .before .before .play .ensures))
+    rw (c .remembers .ensures, c .before .line-reply .ensures, c .before .before .event-of .ensures) (ap (done (eventOf (a .addressed)) (a .count) (a .started)) (c .before .before .before .before .before .before .before .before .play .ensures))
 
 pub played-spec : {M : Type 1} → statement M
 played-spec =
@@ -36,8 +36,8 @@ played-spec =
     (tie.spec
     play-requires
     event-of-requires
-    remembers-requires
     line-reply-requires
+    remembers-requires
     same-length
     same-length-2
     returns)

@@ -2,7 +2,8 @@
  *
  * It is what ./speed measures the proved program against, and a second opinion on its answers. It is
  * written from the rules of the bench (cited below by the name of their bullet, as [Data]), the customer's
- * requests and the two data sheets, 000 for the 24CSM01 and 001 for the 24CS32, and from no Rattle code.
+ * requests and the data sheets, 000 for the 24CSM01, 001 for the 24CS32 and 002 for the AT24CM01, and from
+ * no Rattle code.
  */
 
 typedef unsigned char byte;
@@ -29,16 +30,19 @@ struct part {
     unsigned security, read_only; /* the ID page is the rest of the security register */
     unsigned straps;
     unsigned a16_bits; /* how many of the three address bits are A16 and not strap */
-    byte id[ID_SIZE];  /* sheets, section 11.1 */
+    bool registers;    /* security and configuration, which 1011 bytes are for (request E7) */
+    bool identifies;   /* which F8h and F9h are for (request E7) */
+    byte id[ID_SIZE];  /* sheets, section 11.1; never sent where the part does not identify */
 };
 
 static const struct part parts[] = {
-    {0, 0, 0, 0, 0, 0, 0, {0, 0, 0}}, /* there is no part 0 */
-    {131072, 256, 16384, 512, 256, 4, 1, {0x00, 0xD0, 0xD0}},
-    {4096, 32, 512, 64, 32, 8, 0, {0x00, 0xD0, 0xA8}},
+    {0, 0, 0, 0, 0, 0, 0, 0, 0, {0, 0, 0}}, /* there is no part 0 */
+    {131072, 256, 16384, 512, 256, 4, 1, 1, 1, {0x00, 0xD0, 0xD0}},
+    {4096, 32, 512, 64, 32, 8, 0, 1, 1, {0x00, 0xD0, 0xA8}},
+    {131072, 256, 16384, 0, 0, 4, 1, 0, 0, {0, 0, 0}}, /* the AT24CM01: its EWPM stays 0, so zones protect nothing */
 };
 
-enum { FIRST_PART = 1, LAST_PART = 2 };
+enum { FIRST_PART = 1, LAST_PART = 3 };
 
 /* ---- One chip [How one chip behaves] */
 
@@ -138,11 +142,13 @@ static bool is_sending(const struct chip *chip)
     return chip->phase >= FIRST_SENDING;
 }
 
-/* [Address byte] The read bit is not looked at, nor is the bit of a 24CSM01 that is A16. */
+/* [Address byte] The read bit is not looked at, nor is the bit that is A16 where the part has it. No 1011 byte names
+ * a chip without registers (request E7). */
 static bool is_named(const struct chip *chip, unsigned code, byte b)
 {
     unsigned bits = (b >> 1) & 7;
-    return b >> 4 == code && bits >> chip->part->a16_bits == chip->strap;
+    return b >> 4 == code && bits >> chip->part->a16_bits == chip->strap &&
+           (code != CODE_REGISTER || chip->part->registers);
 }
 
 static void drop_load(struct chip *chip)
@@ -175,17 +181,17 @@ static bool fall_silent(struct chip *chip)
     return 0;
 }
 
-/* [Address byte], [Device ID] */
+/* [Address byte], [Device ID] To a chip that does not identify itself F8h and F9h are for nobody (request E7). */
 static bool take_address(struct chip *chip, byte b)
 {
     bool reads = b & READ_BIT;
 
-    if (b == ID_READ) {
+    if (b == ID_READ && chip->part->identifies) {
         chip->place = 0;
         return chip->chosen ? go_to(chip, SEND_ID) : fall_silent(chip);
     }
     chip->chosen = 0;
-    if (b == ID_SELECT)
+    if (b == ID_SELECT && chip->part->identifies)
         return go_to(chip, ID_ADDRESS);
     if (is_named(chip, CODE_ARRAY, b)) {
         chip->a16 = (b >> 1) & 1; /* on a 24CS32 a bit of the strap; its array's size takes it away */
@@ -652,7 +658,8 @@ static void chip_set_up(struct chip *chip, struct place place, unsigned k)
     chip->shown = SEND_SECURITY;
     memset(chip->array, 0xFF, chip->part->array);
     memset(chip->security, 0xFF, chip->part->security);
-    memset(chip->security, 0x10 + k, SERIAL_SIZE);
+    if (chip->part->registers)
+        memset(chip->security, 0x10 + k, SERIAL_SIZE);
 }
 
 static enum status set_up(struct bus *bus, const struct board *board)

@@ -99,11 +99,27 @@ mod tests {
 
     #[test]
     fn the_lowest_refusal_counts_over_all_chips() {
-        assert_eq!(refusal("2:8 2:0 2:0 3:0"), Some(Refusal::Part));
+        assert_eq!(refusal("2:8 2:0 2:0 4:0"), Some(Refusal::Part));
         assert_eq!(refusal("2:0 2:0 1:4"), Some(Refusal::Strap));
         assert_eq!(refusal("1:0 1:1 1:2 1:3"), None);
         assert_eq!(refusal("0:0 2:1 2:2 2:3 2:4"), Some(Refusal::Count));
         assert_eq!(check(&[]), Err(Refusal::Count));
+    }
+
+    /// Request E7: part 3 has the straps and the codes of a 24CSM01.
+    #[test]
+    fn an_at24cm01_stands_where_a_24csm01_could() {
+        for (words, expected) in [
+            ("3:0 3:1 3:2 3:3", None),
+            ("3:0 1:1 2:4 2:7", None),
+            ("3:0 1:0", Some(Refusal::Clash)),
+            ("2:3 3:1", Some(Refusal::Clash)),
+            ("3:3 3:3", Some(Refusal::Clash)),
+            ("3:0 3:4", Some(Refusal::Strap)),
+            ("3:0 4:1", Some(Refusal::Part)),
+        ] {
+            assert_eq!(refusal(words), expected, "{words}");
+        }
     }
 
     #[test]

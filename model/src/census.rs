@@ -4,9 +4,11 @@ use crate::bus::{Bus, ACKNOWLEDGED, DONE, NOT_BUSY, OCCUPIED, READ, SEND, STOP};
 use crate::chip::{Phase, Sends, Takes, Target, NOTHING};
 use crate::generate::{self, Run};
 use crate::images::{self, ImageRun};
+use crate::part::Part;
 use crate::program::Told;
 use crate::starts;
 use crate::transcript;
+use crate::words::Words;
 use std::collections::BTreeMap;
 
 /// No line of a tally is longer.
@@ -35,7 +37,7 @@ pub fn census(runs: u64) {
 /// The group of what comes after a Start.
 pub const STARTS: &str = "starts";
 
-/// How often each thing came, by groups: one of transcripts, the others of runs with images.
+/// How often each thing came, by groups: one of transcripts, one of each part, the others of runs with images.
 #[derive(Default)]
 pub struct Tally(BTreeMap<&'static str, BTreeMap<String, u64>>);
 
@@ -44,10 +46,11 @@ impl Tally {
         *self.0.entry(group).or_default().entry(what.to_string()).or_default() += 1;
     }
 
-    /// Counts what the bytes of a transcript show of request E8; what never comes has its 0.
+    /// Counts what a transcript shows of requests E7 and E8; what never comes has its 0.
     pub fn watch(&mut self, run: &Run) {
-        let counts = self.0.entry(STARTS).or_default();
-        starts::watch(run, |what, is_seen| *counts.entry(what.to_string()).or_default() += u64::from(is_seen));
+        starts::watch(run, |group, what, is_seen| {
+            *self.0.entry(group).or_default().entry(what.to_string()).or_default() += u64::from(is_seen);
+        });
     }
 
     /// Counts the texts of a run up to the one that is refused; those behind it are never read.
@@ -59,8 +62,11 @@ impl Tally {
             Told::Nothing if Bus::set_up(&run.asked().board).is_err() => return self.count("boards", "refused"),
             Told::Nothing => (texts.len(), None),
         };
-        self.count("boards", format!("of {} chips", run.asked().board.len()));
+        let Words { board, loads, .. } = run.asked();
+        self.count("boards", format!("of {} chips", board.len()));
         for (place, text) in texts[..read].iter().enumerate() {
+            let part = Part::numbered(board[loads[place].chip].part).expect("a board that is not refused");
+            self.count(part.name, "texts");
             let came = match number.filter(|_| place + 1 == read) {
                 Some(number) => format!("refused with {number}"),
                 None => "loaded".to_string(),
@@ -170,17 +176,20 @@ fn doing(phase: Phase) -> &'static str {
 #[cfg(test)]
 mod tests {
     use super::*;
+    use crate::part::AT24CM01;
 
-    const SEEDS: u64 = 30;
-    /// Each thing that comes after a Start comes at least so often in these runs.
+    const SEEDS: u64 = 60;
+    /// Each of these things comes at least so often in these runs.
     const LEAST: u64 = 5;
 
     #[test]
-    fn what_request_e8_tells_apart_comes_often() {
+    fn what_requests_e7_and_e8_tell_apart_comes_often() {
         let mut tally = Tally::default();
         (0..SEEDS).for_each(|seed| tally.watch(&generate::run(seed)));
-        for (what, count) in &tally.0[STARTS] {
-            assert!(*count >= LEAST, "{what}: {count}");
+        for group in [STARTS, AT24CM01.name] {
+            for (what, count) in &tally.0[group] {
+                assert!(*count >= LEAST, "{group}: {what}: {count}");
+            }
         }
     }
 }

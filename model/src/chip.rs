@@ -122,7 +122,9 @@ impl Chip {
     /// A fresh chip (paper, "The two memories"), memories as the bench program sets them (paper, The transcript).
     pub fn fresh(part: &'static Part, strap: u8, number: u8) -> Chip {
         let mut security = vec![ERASED; part.security];
-        security[..SERIAL_BYTES].fill(SERIAL_BASE + number);
+        if part.registers {
+            security[..SERIAL_BYTES].fill(SERIAL_BASE + number);
+        }
         Chip {
             part,
             strap,
@@ -138,6 +140,10 @@ impl Chip {
             phase: Phase::Standby,
             load: Vec::new(),
         }
+    }
+
+    pub fn part(&self) -> &'static Part {
+        self.part
     }
 
     /// What the chip is doing.
@@ -182,10 +188,16 @@ impl Chip {
         next.is_some()
     }
 
-    /// The three bits of an address byte with this device type, where they name this chip.
-    fn named_by(&self, byte: u8, device_type: u8) -> Option<u8> {
+    /// The three bits of an address byte with this device type, where they are this chip's code.
+    pub fn code_in(&self, byte: u8, device_type: u8) -> Option<u8> {
         let bits = (byte >> BITS_SHIFT) & BITS_MASK;
         (byte >> TYPE_SHIFT == device_type && self.part.answers(self.strap, bits)).then_some(bits)
+    }
+
+    /// The same where the byte names this chip: no 1011 byte names one that has no registers (request E7).
+    fn named_by(&self, byte: u8, device_type: u8) -> Option<u8> {
+        let has_type = device_type != REGISTER_TYPE || self.part.registers;
+        self.code_in(byte, device_type).filter(|_| has_type)
     }
 
     /// Whether a 1010 or 1011 byte names this chip, whatever its read bit.
@@ -193,13 +205,15 @@ impl Chip {
         [ARRAY_TYPE, REGISTER_TYPE].into_iter().any(|device_type| self.named_by(byte, device_type).is_some())
     }
 
-    /// Paper, Address byte and Device ID. None: no match, standby.
+    /// Paper, Address byte and Device ID. None: no match, standby. To a chip that does not identify itself F8h and F9h
+    /// are bytes like any other (request E7).
     fn take_address(&mut self, byte: u8) -> Option<Phase> {
-        if byte == ID_READ {
+        let identifies = self.part.identifies;
+        if identifies && byte == ID_READ {
             return self.chosen.then_some(Phase::Sends(Sends::Id { place: 0 }));
         }
         self.chosen = false;
-        if byte == ID_SELECT {
+        if identifies && byte == ID_SELECT {
             return Some(Phase::Takes(Takes::Selection));
         }
         let read = byte & READ_BIT != 0;
@@ -220,8 +234,9 @@ impl Chip {
         }
     }
 
-    /// The byte after F8h, read bit ignored: the chip is chosen where it is named, and takes nothing before the next Start. Where it
-    /// is not named, a choice that it already has stays: of the bytes sent only an address byte drops one, and this is none (D40).
+    /// The byte after F8h, read bit ignored: the chip is chosen where it is named, and takes nothing before the next
+    /// Start. Where it is not named, a choice that it already has stays: of the bytes sent only an address byte drops
+    /// one, and this is none (D40).
     fn take_selection(&mut self, byte: u8) -> bool {
         let named = self.named_by(byte, ARRAY_TYPE).is_some();
         self.chosen |= named;
@@ -395,9 +410,10 @@ fn store_in_page(memory: &mut [u8], part: &Part, first: usize, bytes: &[u8]) {
 #[cfg(test)]
 mod tests {
     use super::*;
-    use crate::part::CS32;
+    use crate::part::{AT24CM01, CS32};
 
-    /// Only a state that is handed in has a chosen chip that awaits the byte after F8h: no transcript leads there (D40).
+    /// Only a state that is handed in has a chosen chip that awaits the byte after F8h: no transcript leads there
+    /// (D40).
     #[test]
     fn a_choice_outlives_a_byte_after_f8_that_is_not_its_own() {
         let handed_in = || {
@@ -417,5 +433,17 @@ mod tests {
         chip.start();
         chip.take(0xA4);
         assert!(!chip.chosen, "an address byte drops the choice");
+    }
+
+    /// Request E7, in states that are handed in too: whatever the byte is, but for its 1010 bytes it falls silent.
+    #[test]
+    fn an_at24cm01_knows_no_1011_byte_and_no_device_id() {
+        for byte in (0..=u8::MAX).filter(|byte| ![0xA4, 0xA5, 0xA6, 0xA7].contains(byte)) {
+            let mut chip = Chip::fresh(&AT24CM01, 1, 0);
+            chip.chosen = true;
+            chip.start();
+            assert!(!chip.take(byte) && !chip.is_named(byte), "{byte:02X}");
+            assert_eq!((chip.chosen, chip.phase), (false, Phase::Standby), "{byte:02X}");
+        }
     }
 }

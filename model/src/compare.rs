@@ -3,6 +3,7 @@
 use crate::census::{Tally, STARTS};
 use crate::generate::{self, Run};
 use crate::images::{self, Outcome};
+use crate::part::PARTS;
 use crate::program::{Folder, Told};
 use crate::rng::Rng;
 use std::fs;
@@ -99,7 +100,9 @@ pub fn compare(bench: &str, runs: u64, first_seed: u64) -> (u64, u64) {
         }
     }
     println!("{runs} transcripts, and {} runs with images", runs * IMAGE_RUNS);
-    [STARTS, "boards", "texts", "shapes", "faults"].iter().for_each(|group| tally.print(group));
+    let parts = PARTS.iter().map(|(_, part)| part.name);
+    let groups = parts.chain([STARTS, "boards", "texts", "shapes", "faults"]);
+    groups.for_each(|group| tally.print(group));
     (passed, runs * (1 + IMAGE_RUNS) - passed)
 }
 

@@ -2,7 +2,7 @@
 
 use crate::board::{self, Place, Refusal, MOST_CHIPS};
 use crate::bus::Event;
-use crate::part::{Part, CS32_NUMBER, CSM01_NUMBER, LINE_ADDRESSES};
+use crate::part::{Part, AT24CM01_NUMBER, CS32_NUMBER, CSM01_NUMBER, LINE_ADDRESSES};
 use crate::program::Folder;
 use crate::rng::Rng;
 use crate::script;
@@ -12,13 +12,17 @@ use crate::words::{self, Words};
 /// Events in a transcript.
 pub const EVENTS: usize = 5_000;
 /// In so many of a hundred runs the board is refused, is the paper's own, or the transcript has a malformed line.
-const REFUSED_PERCENT: usize = 4;
+const REFUSED_PERCENT: usize = 6;
 const PAPERS_BOARD_PERCENT: usize = 5;
 const MALFORMED_PERCENT: usize = 40;
 const EMPTY_PERCENT: usize = 1;
 /// A malformed line comes in the second half.
 const EARLIEST_PART: usize = 2;
-/// In so many of a hundred places on a refused board a digit is any digit.
+/// The parts that a board draws from: all, or only the AT24CM01, so that nobody answers F8h (request E7).
+const MIXES: [(usize, &[u8]); 2] = [(85, &[CSM01_NUMBER, CS32_NUMBER, AT24CM01_NUMBER]), (15, &[AT24CM01_NUMBER])];
+/// The numbers next to those of the parts, which stand for none.
+const NO_PARTS: [u8; 2] = [CSM01_NUMBER - 1, AT24CM01_NUMBER + 1];
+/// In so many of a hundred places on a refused board a digit is one next to the right ones, or any digit.
 const WILD_PERCENT: usize = 25;
 const FEWEST_TO_CLASH: usize = 2;
 const HEXADECIMAL: usize = 16;
@@ -73,27 +77,28 @@ pub fn board_words(rng: &mut Rng) -> Vec<String> {
     let wanted = refused.then(|| rng.pick(&[Refusal::Part, Refusal::Strap, Refusal::Clash]));
     let fewest = if wanted == Some(Refusal::Clash) { FEWEST_TO_CLASH } else { 1 };
     let count = rng.between(fewest, MOST_CHIPS);
+    let parts = rng.weighted(&MIXES);
     loop {
-        let board: Vec<Place> = (0..count).map(|_| place(rng, refused)).collect();
+        let board: Vec<Place> = (0..count).map(|_| place(rng, parts, refused)).collect();
         if board::check(&board).err() == wanted {
             return board.iter().map(Place::to_string).collect();
         }
     }
 }
 
-/// A part and a strap; `wild`: now and then one that does not exist.
-fn place(rng: &mut Rng, wild: bool) -> Place {
-    let mut digit = |usual: &[u8]| {
-        let any = wild && rng.percent(WILD_PERCENT);
-        if any {
-            rng.below(HEXADECIMAL) as u8
+/// One of these parts and a strap; `wild`: now and then one that does not exist, mostly next to one that does.
+fn place(rng: &mut Rng, parts: &[u8], wild: bool) -> Place {
+    let mut digit = |right: &[u8], [below, above]: [u8; 2]| {
+        if wild && rng.percent(WILD_PERCENT) {
+            let any = rng.below(HEXADECIMAL) as u8;
+            rng.pick(&[below, above, any])
         } else {
-            rng.pick(usual)
+            rng.pick(right)
         }
     };
-    let part = digit(&[CSM01_NUMBER, CS32_NUMBER]);
+    let part = digit(parts, NO_PARTS);
     let straps = Part::numbered(part).map_or(LINE_ADDRESSES, |part| part.straps);
-    Place { part, strap: digit(&Vec::from_iter(0..straps)) }
+    Place { part, strap: digit(&Vec::from_iter(0..straps), [straps; 2]) }
 }
 
 /// What can be wrong with a line.
@@ -160,11 +165,14 @@ mod tests {
     use super::*;
     use crate::bus::{Bus, CYCLE_OVER, DONE, NOT_BUSY};
     use crate::chip::Chip;
+    use crate::part::PARTS;
     use crate::transcript::events;
 
     const SEEDS: u64 = 300;
     /// So many of them are played.
     const PLAYED: u64 = 30;
+    /// So many boards are drawn without a transcript.
+    const BOARDS: u64 = 2_000;
     /// Of the events 07 at least one in so many is done, and one refused; and one in so many goes to the wrong chip.
     const COMMON: usize = 8;
     const AT_TIMES: usize = 20;
@@ -188,6 +196,19 @@ mod tests {
         }
         for refusal in [Refusal::Part, Refusal::Strap, Refusal::Clash] {
             assert!(boards.iter().any(|board| board::check(board).err() == Some(refusal)));
+        }
+    }
+
+    #[test]
+    fn what_set_up_just_refuses_comes() {
+        let board = |seed| board::parse(&board_words(&mut Rng::new(seed))).expect("words of a board");
+        let places: Vec<Place> = (0..BOARDS).flat_map(board).collect();
+        let comes = |part, strap| places.contains(&Place { part, strap });
+        for number in NO_PARTS {
+            assert!((0..LINE_ADDRESSES).any(|strap| comes(number, strap)), "part {number}");
+        }
+        for (number, part) in PARTS {
+            assert!(comes(number, part.straps), "strap {} of part {number}", part.straps);
         }
     }
 

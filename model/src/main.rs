@@ -2,6 +2,7 @@
 
 mod board;
 mod bus;
+mod calls;
 mod census;
 mod chip;
 mod compare;

@@ -2,7 +2,7 @@
 
 use crate::board::Place;
 use crate::bus::{Event, ACK, CYCLE_OVER, NACK, POWER_UP, READ, START, STOP, WP_HIGH, WP_LOW};
-use crate::part::{Part, CS32, LINE_ADDRESSES};
+use crate::part::{Part, CS32, CSM01, LINE_ADDRESSES};
 use crate::rng::Rng;
 use crate::turns::{event, start};
 
@@ -47,6 +47,19 @@ const KINDS: [(usize, Kind); 17] = [
     (1, Kind::PowerUp),
     (3, Kind::Noise),
 ];
+
+impl Kind {
+    /// Whether it is aimed at a register.
+    fn needs_registers(self) -> bool {
+        use Kind::*;
+        matches!(self, SecurityWrite | SecurityRead | ConfigurationWrite | ConfigurationRead | Lock | Nameless)
+    }
+}
+
+/// Of the turns to registers that a chip does not have so many in a hundred stay, and go unanswered (request E7).
+const UNANSWERED_PERCENT: usize = 40;
+/// The others become these.
+const TO_THE_ARRAY: [Kind; 2] = [Kind::ArrayWrite, Kind::RandomRead];
 
 /// How a turn can be broken.
 #[derive(Clone, Copy)]
@@ -107,6 +120,9 @@ pub const RECENT: usize = 4;
 /// A chip as far as its turns need it.
 pub struct Seat {
     pub part: &'static Part,
+    /// The part whose registers its turns are aimed at: where it has none, the 24CSM01, and nobody answers (request
+    /// E7).
+    pub registers: &'static Part,
     /// The lowest of the three address bits that it answers to.
     pub bits: u8,
     /// Where some of the last writes to its array were aimed.
@@ -126,7 +142,8 @@ pub struct Script<'a> {
 pub fn events(rng: &mut Rng, board: &[Place], length: usize) -> Vec<Event> {
     let seat = |at: &Place| {
         let part = Part::numbered(at.part).unwrap_or(&CS32);
-        Seat { part, bits: (at.strap << part.word_bits) % LINE_ADDRESSES, recent: [0; RECENT] }
+        let registers = if part.registers { part } else { &CSM01 };
+        Seat { part, registers, bits: (at.strap << part.word_bits) % LINE_ADDRESSES, recent: [0; RECENT] }
     };
     let early_locks = rng.percent(EARLY_LOCKS_PERCENT);
     let mut script = Script { rng, seats: board.iter().map(seat).collect(), events: Vec::new(), length, early_locks };
@@ -140,8 +157,8 @@ pub fn events(rng: &mut Rng, board: &[Place], length: usize) -> Vec<Event> {
 impl Script<'_> {
     /// Adds a turn of some chip, mostly whole, and mostly what ends the cycle that it starts.
     fn add_turn(&mut self) {
-        let kind = self.rng.weighted(&KINDS);
         let chip = self.rng.below(self.seats.len());
+        let kind = self.kind(chip);
         if self.rng.percent(OVER_BEFORE_PERCENT) {
             self.events.push(event(CYCLE_OVER, chip as u8));
         }
@@ -152,6 +169,17 @@ impl Script<'_> {
             Kind::ArrayWrite | Kind::SecurityWrite | Kind::ConfigurationWrite | Kind::Lock => self.end_cycle(chip),
             Kind::BusyLine => (0..self.seats.len()).for_each(|chip| self.end_cycle(chip)),
             _ => {}
+        }
+    }
+
+    /// A kind of turn, mostly one that the chip answers.
+    fn kind(&mut self, chip: usize) -> Kind {
+        let kind = self.rng.weighted(&KINDS);
+        let answered = self.seats[chip].part.registers || !kind.needs_registers();
+        if answered || self.rng.percent(UNANSWERED_PERCENT) {
+            kind
+        } else {
+            self.rng.pick(&TO_THE_ARRAY)
         }
     }
 

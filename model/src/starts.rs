@@ -4,11 +4,13 @@ use crate::bus::{
     Bus, Event, CYCLE_OVER, DONE, OCCUPIED, POWER_UP, READ, SEND, START, STOP, UNANSWERED, WP_HIGH, WP_LOW,
     WRONG_DIRECTION,
 };
+use crate::calls;
+use crate::census::STARTS;
 use crate::chip::{Chip, BITS_SHIFT, ID_SELECT, READ_BIT, REGISTER_TYPE, TYPE_SHIFT};
 use crate::generate::Run;
 use crate::transcript;
 
-/// The bit of an address byte that is A16 where the part is a 24CSM01.
+/// The bit of an address byte that is A16 where the part has one.
 const A16_BIT: u8 = 1 << BITS_SHIFT;
 /// The events that forget a Start when they are done.
 const FORGETTING: [u8; 4] = [SEND, READ, STOP, POWER_UP];
@@ -42,15 +44,23 @@ impl Since {
     }
 }
 
-/// Plays a transcript, and shows what each byte sent is an example of. The flag that the bus keeps is not asked.
-pub fn watch(run: &Run, mut see: impl FnMut(&'static str, bool)) {
+/// Plays a transcript, and shows what its board and each byte sent are examples of, by groups. The flag that the bus
+/// keeps is not asked.
+pub fn watch(run: &Run, mut see: impl FnMut(&'static str, &'static str, bool)) {
     let Ok(mut bus) = Bus::set_up(&run.asked().board) else { return };
+    for (part, alone) in calls::parts_on(bus.chips()) {
+        see(part.name, "boards", true);
+        see(part.name, "boards of it alone", alone);
+    }
     let mut since = Since::default();
     for event in transcript::events(&run.transcript) {
         let answer = bus.step(event);
         if event.kind == SEND && answer.status == DONE {
             for (what, is_seen) in sights(bus.chips(), event.value, answer.reply, &since) {
-                see(what, is_seen);
+                see(STARTS, what, is_seen);
+            }
+            if since.forgotten_by().is_empty() {
+                calls::watch(bus.chips(), event.value, answer.reply, &mut see);
             }
         }
         since.add(event, answer.status);

@@ -264,6 +264,9 @@ mod tests {
             ("2:0 2:1", "A0 B1", "0002"),
             ("2:0 2:1", "A2 B3 F8", "0001"),
             ("2:0 2:1", "A4 F9", "0000"),
+            ("3:0", "A0 A1 A2 A3", "0002"),
+            ("3:0", "B0 B1 B2 B3 A4 F8 F9", "0000"), // no 1011 byte names it (request E7)
+            ("3:0 2:4", "B0 B3 F9", "0000"),
         ] {
             for byte in bytes.split_whitespace() {
                 assert_eq!(last_answer(words, &format!("{WRITE} 0100 03{byte}")), reply, "{words}: {byte}");
@@ -321,6 +324,72 @@ mod tests {
         let choose = "0100 03F8 03A9 0100 03F9 0400*4 0401*2 0100 03F9 0401 0200 0100 03F9 0401";
         assert_eq!(bytes_read("2:0 1:2", choose), ["0000", "00D0", "00D0", "0000", "00D0", "00FF", "0000", "00FF"]);
         assert_eq!(bytes_read("2:4 1:0", choose), ["0000", "00D0", "00A8", "0000", "00D0", "00FF", "0000", "00FF"]);
+    }
+
+    /// Request E7; source document 002, 6.1, 7.2 and 8.1.
+    #[test]
+    fn an_at24cm01_has_the_array_of_a_24csm01() {
+        let write = "0100 03A6 03FF 03FE 0311 0322 0333 0200 0702";
+        let read = "0100 03A6 03FF 03FE 0100 03A5 0400*2 0401 0100 03A6 03FF 0300 0100 03A7 0401 0200";
+        for words in ["2:0 2:4 3:1", "2:0 2:4 1:1"] {
+            assert_eq!(bytes_read(words, &format!("{write} {read}")), ["0011", "0022", "00FF", "0033"], "{words}");
+        }
+    }
+
+    /// Source document 002, 7.5: sampled at the Stop, all acknowledged, no cycle, ready at once.
+    #[test]
+    fn wp_protects_the_whole_at24cm01() {
+        for (first, last, stored) in [("0600", "", "00FF"), ("0500", "0600", "00FF"), ("0600", "0500", "0044")] {
+            for (address, word) in [("03A0", "0300*2"), ("03A2", "03FF*2")] {
+                let write = format!("{first} 0100 {address} {word} 0344 {last} 0200");
+                let came = answers("3:0", &lines(&write));
+                assert!(came.iter().filter(|answer| answer.starts_with("03")).all(|answer| answer.ends_with("0001")));
+                let busy = if stored == "0044" { "0000" } else { "0C00" };
+                assert_eq!(last_answer("3:0", &format!("{write} 0700")), busy);
+                let read = format!("{write} 0700 0100 {address} {word} 0100 03A1 0401 0200");
+                assert_eq!(bytes_read("3:0", &read), [stored], "{first} {last} {address}");
+            }
+        }
+    }
+
+    #[test]
+    fn an_at24cm01_answers_neither_1011_nor_f8_nor_f9() {
+        for events in ["03B0", "03B1", "03B2", "03B3", "03B0 0308", "03F8", "03F8 03A0", "03F9"] {
+            assert_eq!(last_answer("3:0", &format!("0100 {events}")), "0000", "{events}");
+        }
+        for events in ["0100 03B1", "0100 03F8 03A0 0100 03F9"] {
+            assert_eq!(bytes_read("3:0", &format!("{events} 0400*2 0401 0200")), ["00FF"; 3], "{events}");
+        }
+        // No command to registers that are not there changes how the array is protected, nor starts a cycle.
+        let configure = "0100 03B0 0388 0300 0302 0301 0366 0200";
+        assert_eq!(last_answer("3:0", &format!("{configure} 0700")), "0C00");
+        assert_eq!(last_answer("3:0", &format!("{configure} {WRITE} 0700")), "0000");
+    }
+
+    /// Request E7: F8h is acknowledged where some chip of part 1 or 2 is not busy.
+    #[test]
+    fn f8_beside_an_at24cm01() {
+        for (words, events, reply) in [
+            ("2:0 3:1", "0100 03F8", "0001"),
+            ("2:0 3:1", "0100 03F8 03A4", "0000"),
+            ("2:0 3:1", "0100 03F8 03A0", "0001"),
+            ("2:0 3:1", "0100 03F8 03A0 0100 03F9", "0001"),
+            ("2:0 3:1", "0100 03F8 03A4 0100 03F9", "0000"),
+            ("2:0 3:1", &format!("{WRITE} 0100 03F8"), "0000"),
+            ("2:0 3:1", &format!("{WRITE} 0100 03A4"), "0001"),
+            ("3:0 1:1", &format!("{WRITE} 0100 03F8 03A4"), "0001"),
+        ] {
+            assert_eq!(last_answer(words, events), reply, "{words}: {events}");
+        }
+    }
+
+    /// It has no serial number, and those of the others are where they were.
+    #[test]
+    fn an_at24cm01_between_two_others() {
+        let read = |address: u8| format!("0100 03{address:02X} 0308 0300 0100 03{:02X} 0401 0200", address + 1);
+        let events = format!("{} {} {}", read(0xB0), read(0xB4), read(0xB8));
+        assert_eq!(bytes_read("2:0 3:1 1:2", &events), ["0010", "00FF", "0012"]);
+        assert_eq!(bytes_read("3:0 3:1 1:2", &events), ["00FF", "00FF", "0012"]);
     }
 
     #[test]

@@ -7,7 +7,7 @@ use crate::chip::{
     ID_READ, ID_SELECT, LOCK_BIT, LOCK_ROW, LOCK_ROW_MASK, READ_BIT, REGISTER_ROW_MASK, REGISTER_TYPE, SECURITY_ROW,
     TYPE_SHIFT,
 };
-use crate::part::LINE_ADDRESSES;
+use crate::part::{Part, LINE_ADDRESSES};
 use crate::script::{Script, Seat, RECENT};
 
 /// What follows the choice of a chip in a Device ID turn.
@@ -155,7 +155,7 @@ impl Script<'_> {
 
     /// The same for a place in the security register, mostly near the edge of a half.
     fn security_word(&mut self, chip: usize) -> Vec<Event> {
-        let part = self.seats[chip].part;
+        let part = self.seats[chip].registers;
         let anywhere = self.rng.below(part.security);
         let edge = self.rng.pick(&[0, part.read_only, part.read_only, part.security, anywhere]);
         let place = self.near(edge, part.security);
@@ -164,7 +164,7 @@ impl Script<'_> {
 
     /// Start, address byte and word address for a place in the security register.
     fn security_word_at(&mut self, chip: usize, place: usize) -> Vec<Event> {
-        let part = self.seats[chip].part;
+        let part = self.seats[chip].registers;
         let [low, high, ..] = place.to_le_bytes();
         let [low_used, high_used, ..] = (part.security - 1).to_le_bytes();
         let first = SECURITY_ROW | high | self.rng.byte() & !(REGISTER_ROW_MASK | high_used);
@@ -390,10 +390,10 @@ impl Script<'_> {
     /// A byte to the array and one to the ID page: where protection or a lock keeps one from starting a cycle, the
     /// other mostly does. Where the first does, the second goes to a busy chip.
     fn two_writes(&mut self, chip: usize) -> Vec<Event> {
-        let part = self.seats[chip].part;
+        let Part { read_only, security, .. } = *self.seats[chip].registers;
         let array_place = self.array_place(chip);
         let array_word = self.array_word(chip, array_place);
-        let id_place = self.rng.between(part.read_only, part.security - 1);
+        let id_place = self.rng.between(read_only, security - 1);
         let id_word = self.security_word_at(chip, id_place);
         let mut turn = vec![event(WP_LOW, chip as u8)];
         for word in [array_word, id_word] {

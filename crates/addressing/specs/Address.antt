@@ -20,14 +20,31 @@ use Rattle.addressing.specs.declared.Call.the-variants.{ReadArray, Write
 
 -- 1010 or 1011, three bits, then 1 for read. The three bits are the code that the chip answers or not; in a write to the array
 -- they hold A16, elsewhere that bit means nothing. 08h to 0Fh match nobody, as every other byte
-unfoldable pub callOf : Geometry → ℕ → ℕ → Call
-callOf g strap byte =
+unfoldable pub callByForm : Geometry → ℕ → ℕ → Call
+callByForm g strap byte =
     cond (eqb byte 0xF8) HostF8
     (cond (eqb byte 0xF9) HostF9
     (cond (answers g strap (byte / 2 % 8))
     (cond (eqb (byte / 16) 0b1010) (cond (eqb (byte % 2) 1) ReadArray (WriteArray (a16Of g (byte / 2 % 8))))
     (cond (eqb (byte / 16) 0b1011) (cond (eqb (byte % 2) 1) ReadRegister WriteRegister) Nobody))
     Nobody))
+
+-- 1011 bytes are for a part that has registers, F8h and F9h for one that identifies itself (request E7)
+abbrev pub isAble : Geometry → Call → Bool
+isAble g ReadArray = true
+isAble g (WriteArray a16) = true
+isAble g ReadRegister = g .registers
+isAble g WriteRegister = g .registers
+isAble g HostF8 = g .identifies
+isAble g HostF9 = g .identifies
+isAble g Nobody = true
+
+-- what a part is not able to do is asked of nobody
+abbrev pub ifAble : Geometry → Call → Call
+ifAble g call = cond (isAble g call) call Nobody
+
+unfoldable pub callOf : Geometry → ℕ → ℕ → Call
+callOf g strap byte = ifAble g (callByForm g strap byte)
 
 -- a 1011 read shows what the last whole 1011 word address named; the configuration register from byte 0
 abbrev pub sourceOf : Shown → Source
@@ -39,7 +56,7 @@ sourceOf ShowsNothing = FromNothing
 abbrev pub takeIdentify : Control → Answered
 takeIdentify c = cond (c .chosen) (acked (SendsByte (FromId 0)) c) (silent Standby c)
 
--- any other address byte drops the choice; F8h is acknowledged by every chip that awaits an address byte
+-- any other address byte drops the choice; F8h is acknowledged by every chip that identifies itself and awaits an address byte
 abbrev pub takeCall : Call → Control → Answered
 takeCall ReadArray c = acked (SendsByte FromArray) (choosing false c)
 takeCall (WriteArray a16) c = acked (AwaitsWord (ArrayFirst a16)) (choosing false c)
@@ -52,7 +69,7 @@ takeCall Nobody c = silent Standby (choosing false c)
 unfoldable pub takeAddress : Control → ℕ → Answered
 takeAddress c byte = takeCall (callOf (geometryOf (c .part)) (c .strap) byte) c
 
--- a 1010 or 1011 byte with a code of the chip names it
+-- a 1010 byte with a code of the chip names it, and so does a 1011 byte where the chip has registers
 abbrev pub isNamed : Call → Bool
 isNamed ReadArray = true
 isNamed (WriteArray a16) = true

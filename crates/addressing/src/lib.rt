@@ -8,9 +8,10 @@ use control::phase::Source;
 use control::phase::Word;
 use parts::address::a16_of;
 use parts::address::answers;
+use parts::part::geometry_of;
 ghost use mathlib.Core.Path.{_≡_};
 ghost use Rattle.parts.specs.Part.{geometryOf};
-ghost use Rattle.addressing.specs.Address.{callOf, sourceOf, takeAddress, takeIdentify, isNamed, takeBusy, takeChoice};
+ghost use Rattle.addressing.specs.Address.{callByForm, isAble, callOf, sourceOf, takeAddress, takeIdentify, isNamed, takeBusy, takeChoice};
 
 // The device type identifiers, 1010 for the array and 1011 for the registers, and the two host codes of the Device ID.
 const ARRAY: u8 = 0b1010;
@@ -32,8 +33,9 @@ pub enum Call {
     Nobody,
 }
 
-pub fn call_of(part: u8, strap: u8, byte: u8) -> Call
-    ensures { λ r. ⌜ r ≡ callOf (geometryOf part) strap byte ⌝ }
+// By its form alone, whatever the part is able to do.
+fn call_by_form(part: u8, strap: u8, byte: u8) -> Call
+    ensures { λ r. ⌜ r ≡ callByForm (geometryOf part) strap byte ⌝ }
 {
     if byte == F8 {
         return Call::HostF8;
@@ -56,6 +58,33 @@ pub fn call_of(part: u8, strap: u8, byte: u8) -> Call
             return Call::ReadRegister;
         }
         return Call::WriteRegister;
+    }
+    Call::Nobody
+}
+
+// 1011 bytes are for a part that has registers, F8h and F9h for one that identifies itself (request E7).
+fn is_able(part: u8, call: Call) -> bool
+    ensures { λ r. ⌜ r ≡ isAble (geometryOf part) call ⌝ }
+{
+    let g = geometry_of(part);
+    match call {
+        Call::ReadArray => true,
+        Call::WriteArray(_) => true,
+        Call::ReadRegister => g.registers,
+        Call::WriteRegister => g.registers,
+        Call::HostF8 => g.identifies,
+        Call::HostF9 => g.identifies,
+        Call::Nobody => true,
+    }
+}
+
+// What the part is not able to do is asked of nobody.
+pub fn call_of(part: u8, strap: u8, byte: u8) -> Call
+    ensures { λ r. ⌜ r ≡ callOf (geometryOf part) strap byte ⌝ }
+{
+    let asked = call_by_form(part, strap, byte);
+    if is_able(part, asked) {
+        return asked;
     }
     Call::Nobody
 }
@@ -100,7 +129,7 @@ pub fn take_address(c: Control, byte: u8) -> Answered
     }
 }
 
-// A 1010 or 1011 byte with a code of the chip names it.
+// A 1010 byte with a code of the chip names it, and a 1011 byte where it has registers.
 fn is_named(call: Call) -> bool
     ensures { λ r. ⌜ r ≡ isNamed call ⌝ }
 {

@@ -17,7 +17,7 @@ use Rattle.board.specs.Place.{placeAt, placed}
 abbrev pub wrongCount : ℕ → Bool
 wrongCount count = not (leb 1 count && leb count 4)
 
--- a part other than 1 or 2
+-- a part other than 1, 2 or 3
 abbrev pub unknownPart : List Place → ℕ → Bool
 unknownPart places i = not (isPart (placeAt places i .part))
 

@@ -4,11 +4,12 @@ use board::Place;
 use board::placed;
 use board::shares::security_start;
 use parts::part::Part24CSM01;
-ghost use Prim.Native.Nat.{_≤_, _^_};
+use parts::part::geometry_of;
+ghost use Prim.Native.Nat.{_<_, _≤_, _^_};
 ghost use mathlib.Core.Path.{_≡_};
 ghost use lib.ListN.{set, length};
 ghost use Rattle.factory.specs.Memory.{erased, arraysSize, registersSize};
-ghost use Rattle.factory.specs.Serial.{marked, serialByte, serials};
+ghost use Rattle.factory.specs.Serial.{marked, serialByte, serial, serials};
 
 // A byte of an erased memory.
 const ERASED: u8 = 0xFF;
@@ -67,14 +68,26 @@ fn serial_byte(chip: usize) -> u8
     FIRST_SERIAL + chip as u8
 }
 
-// The serial number of each chip stands at the start of its share; all else stays.
+// The serial number of a chip stands at the start of its share; a part without registers has none (request E7).
+fn mark_serial(chip: usize, places: [Place; PLACES], security: &mut [u8])
+    requires { ⌜ chip < 4 ⌝ }
+    ensures { λ _. ⌜ now (security .exit) ≡ serial places chip (now (security .entry)) ⌝ }
+{
+    let place = places[chip];
+    let registers = geometry_of(place.part).registers;
+    if registers {
+        mark(serial_byte(chip), security_start(chip, places), security);
+    }
+}
+
+// Each chip's in its own share; all else stays.
 pub fn mark_serials(count: usize, places: [Place; PLACES], security: &mut [u8])
     ensures { λ _. ⌜ now (security .exit) ≡ serials count places (now (security .entry)) ⌝ }
 {
     let n = placed(count);
     let mut k: usize = 0;
     while k < n {
-        mark(serial_byte(k), security_start(k, places), security);
+        mark_serial(k, places, security);
         k += 1;
     }
 }

@@ -1,6 +1,7 @@
 -- Well formed (paper, "Well formed means"), of which `wellformed` has what concerns one chip, and two chips side by side. Clause by clause:
 --     set-up would pass 1 to 4                                 setUpPasses, here
---     every counter is inside its region                       countersFit, and for the place in the ID placeFits: wellformed Wellformed
+--     every counter is inside its region                       countersFit, and for what is sent, taken and awaited phaseFits: wellformed
+--                                                              Wellformed (request E7: a part may lack a region)
 --     every load position is inside its region                 insidePage, in spanFits: wellformed Wellformed
 --     at most one chip in all is sending, chosen or taking
 --     word-address or data bytes                               notBothActive: wellformed Beside
@@ -9,6 +10,8 @@
 --     a busy chip is none of these and takes nothing           busyNotChosen: wellformed Wellformed; a busy phase neither sends nor takes
 --     only a chip taking data bytes holds a load               onlyDataLoads, in spanFits: wellformed Wellformed
 --     loaded bytes run on from the first (request E10)         nextRunsOn, in spanFits: wellformed Wellformed
+--     only a chip that identifies itself is chosen
+--     (request E7)                                             onlyAbleChosen: wellformed Wellformed
 --     every register's unused bits and ECS are 0               unusedBitsClear: wellformed Wellformed
 --     what a chip does while a Start is remembered, and while
 --     none is (request E8)                                     heedsStart: wellformed Wellformed

@@ -1,3 +1,4 @@
 pub mod Accepted
 pub mod Unique
 pub mod Exactly
+pub mod Registers

@@ -12,7 +12,7 @@ use Rattle.regions.specs.Counter.{counterIn}
 use Rattle.load.specs.Load.{noValues, storePage}
 use Rattle.control.specs.Phase.{isBusy}
 use Rattle.control.specs.Said.{replyOf}
-use Rattle.addressing.specs.Address.{callOf, takeAddress, takeBusy, takeChoice}
+use Rattle.addressing.specs.Address.{callByForm, callOf, takeAddress, takeBusy, takeChoice}
 use Rattle.taking.specs.Taking as taking
 use Rattle.taking.specs.Taking.{take, spanAfter}
 use Rattle.sending.specs.Sending.{read}
@@ -131,5 +131,5 @@ edges =
     ∷ []
 
 pub edges-hold : map (λ (edge : ℕ × ℕ). edge .0) edges ≡ map (λ (edge : ℕ × ℕ). edge .1) edges
-unfolding edges step valuesAfter take spanAfter taking.valuesAfter takeAddress takeBusy takeChoice callOf geometryOf read stop storePage upTo setUp
+unfolding edges step valuesAfter take spanAfter taking.valuesAfter takeAddress takeBusy takeChoice callOf callByForm geometryOf read stop storePage upTo setUp
 edges-hold = refl

@@ -19,7 +19,7 @@ use Rattle.control.specs.declared.phase.Source.the-variants.{FromId}
 use Rattle.control.specs.Phase.{isSending, isTaking}
 use Rattle.control.specs.Control.{inPhase}
 use Rattle.control.specs.Said.{replyOf}
-use Rattle.addressing.specs.Address.{callOf, takeAddress, takeChoice}
+use Rattle.addressing.specs.Address.{callByForm, callOf, takeAddress, takeChoice}
 use Rattle.load.specs.Load.{noValues}
 use Rattle.taking.specs.Taking as taking
 use Rattle.taking.specs.Taking.{take, spanAfter}
@@ -48,6 +48,7 @@ use Rattle.bus.proofs.Typed.{OfItsType}
 use Rattle.promises.specs.ChipPlayed.{chipPlayed}
 use Rattle.promises.specs.Playing.{World, busOf, afterOne, answerTo, after}
 use Rattle.promises.specs.Identity.{IsAsked, idEvents, idWords, readWord, roundByte}
+use Rattle.promises.proofs.Keeping.Wellformed.{chosen-identifies}
 use Rattle.promises.proofs.Keeping.Beside.{beside-sym, no-other-sends, no-other-takes}
 use Rattle.promises.proofs.Formed.{formed-of}
 use Rattle.promises.proofs.Steps.{step-is-each-chips-own, step-answers-for-all}
@@ -59,9 +60,9 @@ abbrev identifies : Chip → ℕ → Chip
 identifies c n = record { control = inPhase (SendsByte (FromId (n % 3))) (c .control); span = c .span }
 
 module _ (c : Chip) (values array security : List ℕ) where
-  asked-identifies : (first : Bool) → IsAsked (c .control) → step c values array security (Sent first 0xF9) ≡ (record { chip = identifies c 0; said = Ack }, array, security)
-  unfolding step take spanAfter takeAddress callOf
-  asked-identifies first asked = rw (asked .awaits, asked .chosen)
+  asked-identifies : (first : Bool) → geometryOf (c .control .part) .identifies ≡ true → IsAsked (c .control) → step c values array security (Sent first 0xF9) ≡ (record { chip = identifies c 0; said = Ack }, array, security)
+  unfolding step take spanAfter takeAddress callOf callByForm
+  asked-identifies first able asked = rw (asked .awaits, able, asked .chosen)
 
   sends-round : (n : ℕ) (nack : Bool) → step (identifies c n) values array security (Read nack) .0 .said ≡ Byte (roundByte (c .control) n)
   unfolding step read
@@ -84,14 +85,14 @@ goes-round c array security (suc n) from to is said values =
     (sym (goes-on c values array security from))
     (goes-round c array security n (from + 1) to (omega (arith, is)) (Byte (roundByte (c .control) from)) (valuesAfter (identifies c from) (Read false) values))
 
-pub id-goes-round : (c : Chip) (values array security : List ℕ) → IsAsked (c .control) → (n : ℕ) (nack : Bool)
+pub id-goes-round : (c : Chip) (values array security : List ℕ) → geometryOf (c .control .part) .identifies ≡ true → IsAsked (c .control) → (n : ℕ) (nack : Bool)
     → let at = chipPlayed (idEvents n) (quiet c, array, security, values) in
     step (at .0 .chip) (at .3) (at .1) (at .2) (Read nack) .0 .said ≡ Byte (roundByte (c .control) n)
-id-goes-round c values array security asked n nack =
+id-goes-round c values array security able asked n nack =
     let then = valuesAfter c (Sent true 0xF9) values in
     let at = chipPlayed (idEvents n) (quiet c, array, security, values) in
     let (there, same-array, same-security) =
-    subst (λ (x : Stepped × List ℕ × List ℕ). Sends c values array security n (chipPlayed (replicate n (Read false)) (x .0, x .1, x .2, then))) (sym (asked-identifies c values array security true asked))
+    subst (λ (x : Stepped × List ℕ × List ℕ). Sends c values array security n (chipPlayed (replicate n (Read false)) (x .0, x .1, x .2, then))) (sym (asked-identifies c values array security true able asked))
     (goes-round c array security n 0 n (omega arith) Ack then) in
     rw (there, same-array, same-security) (sends-round c (at .3) array security n nack)
 
@@ -104,7 +105,7 @@ idRead part n =
 pub seven-id-bytes :
     map (idRead 1) (0 ∷ 1 ∷ 2 ∷ 3 ∷ 4 ∷ 5 ∷ 6 ∷ []) ++ map (idRead 2) (0 ∷ 1 ∷ 2 ∷ 3 ∷ 4 ∷ 5 ∷ 6 ∷ [])
     ≡ (0x00 ∷ 0xD0 ∷ 0xD0 ∷ 0x00 ∷ 0xD0 ∷ 0xD0 ∷ 0x00 ∷ []) ++ (0x00 ∷ 0xD0 ∷ 0xA8 ∷ 0x00 ∷ 0xD0 ∷ 0xA8 ∷ 0x00 ∷ [])
-unfolding step valuesAfter take spanAfter taking.valuesAfter takeAddress takeChoice callOf geometryOf read
+unfolding step valuesAfter take spanAfter taking.valuesAfter takeAddress takeChoice callOf callByForm geometryOf read
 seven-id-bytes = refl
 
 -- a line that passes the checks at entry, and one of its chips
@@ -142,8 +143,11 @@ module _ (world : World) (typed : OfItsType (busOf world)) (enters : firstOf (en
       ∙ passed-first (decodeChecks count word) (lineChecks (addressedOf (busOf world .started) word) count chips) decodes
       ∙ rw (asks, any-one (λ (i : ℕ). clashesWith event (controlAt chips i .phase)) (placed count) k here others, mine)
 
-  -- F9h, where the chip is chosen: no other sends
+  -- F9h, where the chip is chosen: no other sends, and it identifies itself (request E7)
   module _ (asked : IsAsked (controlAt chips k)) where
+    able : geometryOf (controlAt chips k .part) .identifies ≡ true
+    able = chosen-identifies (chipAt chips k) (formed-of count (busOf world .started) chips (entry .formed) .fit k here) (asked .chosen)
+
     f9-passes : firstOf (stepChecks (busOf world) (arrayOf world) (securityOf world) (wordOf 3 0xF9)) ≡ Passed
     unfolding addressedOf
     f9-passes =
@@ -155,7 +159,7 @@ module _ (world : World) (typed : OfItsType (busOf world)) (enters : firstOf (en
     unfolding addressedOf
     f9-taken =
         step-is-each-chips-own (busOf world) (arrayOf world) (securityOf world) (wordOf 3 0xF9) typed f9-passes k below .0
-        ∙ ap (λ (at : Stepped × List ℕ × List ℕ). at .0 .chip) (asked-identifies (chipAt chips k) _ _ _ _ asked)
+        ∙ ap (λ (at : Stepped × List ℕ × List ℕ). at .0 .chip) (asked-identifies (chipAt chips k) _ _ _ _ able asked)
 
   -- a byte read, where the chip sends its ID: no other takes
   module _ (c : Chip) (n : ℕ) (sends : chipAt chips k ≡ identifies c n) (nack : Bool) where

@@ -1,5 +1,5 @@
 -- What every event keeps of one chip, and of two chips side by side.
-mod Fits
+pub mod Fits
 pub mod Good
 mod Taking
 mod Sending

@@ -14,6 +14,7 @@ mod Sent
 pub mod Replies
 pub mod Occupied
 pub mod Odd
+pub mod Older
 pub mod Bytes
 pub mod Answers
 pub mod Calls

@@ -25,7 +25,7 @@ use Rattle.control.specs.Said.{replyOf}
 use Rattle.control.proofs.phase.Laws.{busy-is}
 use Rattle.addressing.specs.declared.Call.{Call}
 use Rattle.addressing.specs.declared.Call.the-variants.{HostF8, HostF9, Nobody}
-use Rattle.addressing.specs.Address.{callOf, isNamed, names, takeAddress, takeBusy}
+use Rattle.addressing.specs.Address.{callByForm, isAble, callOf, isNamed, names, takeAddress, takeBusy}
 use Rattle.taking.specs.Taking.{takeIn, take}
 use Rattle.chip.specs.declared.Chip.{Chip}
 use Rattle.chip.specs.declared.event.Event.the-variants.{Sent}
@@ -56,9 +56,13 @@ use Rattle.promises.proofs.Steps.{step-answers-for-all}
 -- a byte that names a chip is neither F8h nor F9h, and has a code that the chip answers
 named-code : (g : Geometry) (strap byte : ℕ) → isNamed (callOf g strap byte) ≡ true
     → (eqb byte 0xF8 ≡ false) × (eqb byte 0xF9 ≡ false) × (answers g strap (byte / 2 % 8) ≡ true)
-unfolding callOf
-named-code g strap byte = go (eqb byte 0xF8) (eqb byte 0xF9) (answers g strap (byte / 2 % 8)) _
+unfolding callOf callByForm
+named-code g strap byte named = go (eqb byte 0xF8) (eqb byte 0xF9) (answers g strap (byte / 2 % 8)) _ (asked (isAble g (callByForm g strap byte)) (callByForm g strap byte) named)
   where
+    asked : (able : Bool) (call : Call) → isNamed (cond able call Nobody) ≡ true → isNamed call ≡ true
+    asked true call is = is
+    asked false call is = absurd (false≢true is)
+
     go : (f8 f9 here : Bool) (call : Call) → isNamed (cond f8 HostF8 (cond f9 HostF9 (cond here call Nobody))) ≡ true → (f8 ≡ false) × (f9 ≡ false) × (here ≡ true)
     go true f9 here call is = absurd (false≢true is)
     go false true here call is = absurd (false≢true is)
@@ -68,7 +72,7 @@ named-code g strap byte = go (eqb byte 0xF8) (eqb byte 0xF9) (answers g strap (b
 -- to a chip that does not answer the code it is for nobody; while a Start is remembered such a chip is silent
 module _ (c : Chip) (values array security : List ℕ) (byte : ℕ) (f8 : eqb byte 0xF8 ≡ false) (f9 : eqb byte 0xF9 ≡ false) (other : answers (geometryOf (c .control .part)) (c .control .strap) (byte / 2 % 8) ≡ false) where
   for-nobody : callOf (geometryOf (c .control .part)) (c .control .strap) byte ≡ Nobody
-  unfolding callOf
+  unfolding callOf callByForm
   for-nobody = rw (f8, f9, other)
 
   passed-over : (first : Bool) → first ≡ true → heedsStart first (c .control .phase) ≡ true → chip.step c values array security (Sent first byte) .0 .said ≡ Nothing

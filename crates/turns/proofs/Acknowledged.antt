@@ -1,19 +1,18 @@
--- F8h straight after a Start is acknowledged exactly when some chip is not busy, on any bus that passes the checks at entry: after the Start
--- every chip awaits an address byte or is busy, and F8h is acknowledged by the ones that await.
+-- F8h straight after a Start is acknowledged exactly when some chip that identifies itself is not busy, on any bus that passes the checks at entry:
+-- after the Start every chip awaits an address byte or is busy, and F8h is acknowledged by those of them that await and identify themselves.
 use Prim.Native.Nat.{ℕ, zero, suc, _<_}
 use native.Mathlib.Omega.{arith}
-use mathlib.Core.Bool.{Bool, true, false, cond, not, false≢true}
+use mathlib.Core.Bool.{Bool, true, false, cond, false≢true}
 use mathlib.Core.List.{List, [], _∷_}
 use mathlib.Core.Path.{_≡_, _∙_, refl, ap}
 use lib.ListN.{getD, take}
-use borrow.Author.Tests.{not-true, not-false}
 use Rattle.base.specs.Fold.{anyBelow}
 use Rattle.base.specs.Word.{wordOf}
 use Rattle.base.proofs.logic.Laws.{and-left, and-right}
 use Rattle.base.proofs.Fold.{any-some, any-none, none-any}
 use Rattle.control.specs.declared.Said.{Said}
 use Rattle.control.specs.declared.Said.the-variants.{Nothing, Ack}
-use Rattle.control.specs.Phase.{isBusy, isSending}
+use Rattle.control.specs.Phase.{isSending}
 use Rattle.chip.specs.declared.Chip.{Chip}
 use Rattle.chip.specs.declared.event.Event.{Event}
 use Rattle.chip.specs.declared.event.Event.the-variants.{Start, Sent}
@@ -33,7 +32,7 @@ use Rattle.promises.proofs.Replies.{silent-line, acknowledged-exactly-when}
 use Rattle.turns.specs.Turn.{isStart, isF8}
 use Rattle.turns.specs.Shuffle.{isExcepted}
 use Rattle.turns.specs.Alone.{alone}
-use Rattle.turns.specs.Undisturbed.{acknowledge}
+use Rattle.turns.specs.Undisturbed.{isFree, acknowledge}
 use Rattle.turns.proofs.Asked.{start-asks, f8-asks}
 use Rattle.turns.proofs.Resting.{isHeeding, start-heeds, heeding-sends-nothing, f8-said}
 use Rattle.turns.proofs.Entering.{Entering, entering-kept}
@@ -56,7 +55,7 @@ module _ (world : World) (e : Entering world) (heeding : (i : ℕ) → i < world
   entry = entered (world .0) (world .1) (world .2) (e .enters)
 
   abbrev free : ℕ → Bool
-  free i = not (isBusy (controlAt chips i .phase))
+  free i = isFree (controlAt chips i)
 
   -- F8h, whether a Start is remembered or none
   abbrev f8 : Event
@@ -65,7 +64,7 @@ module _ (world : World) (e : Entering world) (heeding : (i : ℕ) → i < world
   abbrev saidBy : ℕ → Said
   saidBy i = own (ToAll f8) chips (world .0 .values) (world .1) (world .2) i .0 .said
 
-  says : (i : ℕ) → i < placed count → saidBy i ≡ cond (isBusy (controlAt chips i .phase)) Nothing Ack
+  says : (i : ℕ) → i < placed count → saidBy i ≡ cond (free i) Ack Nothing
   says i below = f8-said (chipAt chips i) _ _ _ (world .0 .started) (heeding i (omega (arith, entry .all-placed)))
 
   -- 01 where a chip is free, and where none is every chip is silent
@@ -73,12 +72,10 @@ module _ (world : World) (e : Entering world) (heeding : (i : ℕ) → i < world
       → lineReply f8 (gathered (ToAll f8) count chips (world .0 .values) (world .1) (world .2)) ≡ cond some 0x01 0x00
   reply-is true is =
       let (i, (below, here)) = any-some free (placed count) is in
-      let idle : isBusy (controlAt chips i .phase) ≡ false = not-true _ here in
-      acknowledged-exactly-when (world .0 .started) 0xF8 count chips (world .0 .values) (world .1) (world .2) .1 (i, (below, says i below ∙ rw idle))
+      acknowledged-exactly-when (world .0 .started) 0xF8 count chips (world .0 .values) (world .1) (world .2) .1 (i, (below, says i below ∙ rw here))
   reply-is false is =
       ap (lineReply f8)
-      (silent-line saidBy (placed count) λ i below.
-      let busy : isBusy (controlAt chips i .phase) ≡ true = not-false _ (any-none free (placed count) i is below) in says i below ∙ rw busy)
+      (silent-line saidBy (placed count) λ i below. says i below ∙ rw (any-none free (placed count) i is below))
 
   calm : lineVerdict (ToAll f8) world ≡ Passed
   calm =

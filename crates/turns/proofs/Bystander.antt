@@ -1,5 +1,5 @@
--- A chip at rest sits through another's turn: a Start wakes it, and F8h keeps it awake, but the address byte that follows is another's, or
--- F9h while it is not chosen, so it goes back to standby as it was, and a busy one says nothing. Of the rest it takes no notice.
+-- A chip at rest sits through another's turn: a Start wakes it, and F8h keeps it awake where it identifies itself, but the address byte that follows
+-- is another's, or F9h while it is not chosen, so it goes back to standby as it was, and a busy one says nothing. Of the rest it takes no notice.
 use Prim.Native.Nat.{ℕ, _/_, _%_, _<_, _≤_}
 use native.Mathlib.Omega.{arith}
 use mathlib.Core.Bool.{Bool, true, false, cond, not, _&&_, _||_, or-false, false≢true}
@@ -23,7 +23,7 @@ use Rattle.control.specs.Control.{inPhase, choosing}
 use Rattle.control.proofs.phase.Laws.{resting-is}
 use Rattle.addressing.specs.declared.Call.{Call}
 use Rattle.addressing.specs.declared.Call.the-variants.{HostF9, Nobody}
-use Rattle.addressing.specs.Address.{callOf, isNamed, names, takeCall, takeAddress, takeBusy, takeChoice}
+use Rattle.addressing.specs.Address.{callByForm, ifAble, callOf, isNamed, names, takeCall, takeAddress, takeBusy, takeChoice}
 use Rattle.taking.specs.Taking as taking
 use Rattle.cycle.specs.Stop as cycle
 use Rattle.chip.specs.declared.Chip.{Chip}
@@ -36,6 +36,7 @@ use Rattle.decode.specs.Hearing.{clashesWith}
 use Rattle.line.proofs.Deaf.{sent-stays, read-stays}
 use Rattle.turns.specs.Idle.{isLoading, isAtRest}
 use Rattle.turns.specs.Turn.{Next, Anything, AddressByte, ChoiceByte, isAddressOf, isFirstByte}
+use Rattle.turns.specs.Undisturbed.{isFree}
 
 -- in another phase, its load dropped
 abbrev pub woken : Phase → Chip → Chip
@@ -45,11 +46,11 @@ woken phase c = record { control = inPhase phase (c .control); span = span.dropp
 abbrev pub awaiting : Phase → Chip → Chip
 awaiting phase c = cond (isBusy (c .control .phase)) c (woken phase c)
 
--- a chip that has no turn, by what must come next in another's
+-- a chip that has no turn, by what must come next in another's; F8h is for a chip that identifies itself
 abbrev pub whileAnothersTurn : Next → Chip → Chip
 whileAnothersTurn Anything c = c
 whileAnothersTurn AddressByte c = awaiting AwaitsAddress c
-whileAnothersTurn ChoiceByte c = awaiting AwaitsChoice c
+whileAnothersTurn ChoiceByte c = cond (geometryOf (c .control .part) .identifies) (awaiting AwaitsChoice c) c
 
 -- a chip whose choice is dropped
 abbrev dropped : Chip → Chip
@@ -82,22 +83,22 @@ module _ (c : Chip) (place : Place)
 
   -- an address byte of the place, and 00h to 0Fh
   address-for-nobody : (opening byte : ℕ) → opening < 15 → isAddressOf opening place byte ≡ true → called byte ≡ Nobody
-  unfolding callOf
+  unfolding callOf callByForm
   address-for-nobody opening byte below is =
       let opens : byte / 16 ≡ opening = eqb-true _ _ (and-left _ _ is) in
       let (not-f8, not-f9) = not-the-host's byte (omega arith) in
       rw (not-f8, not-f9, unanswered (byte / 2 % 8) (and-right (eqb (byte / 16) opening) _ is))
 
   low-for-nobody : (byte : ℕ) → byte ≤ 0x0F → called byte ≡ Nobody
-  unfolding callOf
+  unfolding callOf callByForm
   low-for-nobody byte below =
       let (not-f8, not-f9) = not-the-host's byte (omega arith) in
       rw (not-f8, not-f9, ne-eqb (byte / 16) 0b1010 (λ same. omega arith), ne-eqb (byte / 16) 0b1011 (λ same. omega arith))
-      (either (λ (call : Call). call ≡ Nobody) (answered (byte / 2 % 8)) Nobody Nobody refl refl)
+      (either (λ (call : Call). ifAble (geometryOf (c .control .part)) call ≡ Nobody) (answered (byte / 2 % 8)) Nobody Nobody refl refl)
 
   -- a first byte of the place is F9h or for nobody
   first-called : (P : Call → Type 0) (byte : ℕ) → isFirstByte place byte ≡ true → P HostF9 → P Nobody → P (called byte)
-  unfolding callOf
+  unfolding callOf callByForm
   first-called P byte first identity nobody =
       go (isAddressOf 0b1010 place byte) (isAddressOf 0b1011 place byte) (leb 0x08 byte && leb byte 0x0F) refl refl refl first
     where
@@ -108,7 +109,8 @@ module _ (c : Chip) (place : Place)
       go true register low is other small some = rw (address-for-nobody 0b1010 byte (omega arith) is) nobody
       go false true low is other small some = rw (address-for-nobody 0b1011 byte (omega arith) other) nobody
       go false false true is other small some = rw (low-for-nobody byte (leb-true _ _ (and-right (leb 0x08 byte) _ small))) nobody
-      go false false false is other small some = rw (eqb-true byte 0xF9 some) identity
+      go false false false is other small some =
+          rw (eqb-true byte 0xF9 some) (either P (geometryOf (c .control .part) .identifies) HostF9 Nobody identity nobody)
 
 module _ (c : Chip) (rest : isAtRest c ≡ true) where
   still : (not (isSending (c .control .phase)) && not (isTaking (c .control .phase))) ≡ true
@@ -116,6 +118,9 @@ module _ (c : Chip) (rest : isAtRest c ≡ true) where
 
   empty-handed : (not (isLoading c) && not (c .control .chosen)) ≡ true
   empty-handed = and-right (not (isSending (c .control .phase)) && not (isTaking (c .control .phase))) _ rest
+
+  unloaded : isLoading c ≡ false
+  unloaded = not-true _ (and-left _ _ empty-handed)
 
   unchosen : c .control .chosen ≡ false
   unchosen = not-true _ (and-right (not (isLoading c)) _ empty-handed)
@@ -185,12 +190,20 @@ module _ (c : Chip) (rest : isAtRest c ≡ true) where
       hears-awaited phase v a s first byte (quiet c) unnamed (λ standby. is ∙ ap quiet (asleep standby)) (λ busy. refl)
 
   pub hears-f8 : (v a s : List ℕ)
-      → step (whileAnothersTurn AddressByte c) v a s (Sent true 0xF8) ≡ (record { chip = whileAnothersTurn ChoiceByte c; said = cond (isBusy (c .control .phase)) Nothing Ack }, a, s)
-  unfolding taking.take taking.spanAfter takeAddress callOf
-  hears-f8 v a s =
-      hears-awaited AwaitsAddress v a s true 0xF8 _ refl
-      (λ standby. rw standby (ap (λ (d : Chip). record { chip = woken AwaitsChoice d; said = Ack }) unpicked))
-      (λ busy. rw busy)
+      → step (whileAnothersTurn AddressByte c) v a s (Sent true 0xF8) ≡ (record { chip = whileAnothersTurn ChoiceByte c; said = cond (isFree (c .control)) Ack Nothing }, a, s)
+  unfolding taking.take taking.spanAfter takeAddress callOf callByForm
+  hears-f8 v a s = go (geometryOf (c .control .part) .identifies) refl
+    where
+      go : (can : Bool) → geometryOf (c .control .part) .identifies ≡ can
+          → step (whileAnothersTurn AddressByte c) v a s (Sent true 0xF8) ≡ (record { chip = cond can (awaiting AwaitsChoice c) c; said = cond (can && not (isBusy (c .control .phase))) Ack Nothing }, a, s)
+      go true is =
+          hears-awaited AwaitsAddress v a s true 0xF8 _ (rw is)
+          (λ standby. rw (standby, is) (ap (λ (d : Chip). record { chip = woken AwaitsChoice d; said = Ack }) unpicked))
+          (λ busy. rw busy)
+      go false is =
+          hears-awaited AwaitsAddress v a s true 0xF8 _ (rw is)
+          (λ standby. rw is (ap quiet (ap (woken Standby) unpicked ∙ asleep standby)))
+          (λ busy. refl)
 
   module _ (v a s : List ℕ) (place : Place) (byte : ℕ)
       (unshared : shareAddress (geometryOf (place .part)) (place .strap) (geometryOf (c .control .part)) (c .control .strap) ≡ false) where
@@ -208,7 +221,10 @@ module _ (c : Chip) (rest : isAtRest c ≡ true) where
 
     pub passes-choice : isAddressOf 0b1010 place byte ≡ true → step (whileAnothersTurn ChoiceByte c) v a s (Sent false byte) ≡ (quiet c, a, s)
     unfolding taking.take taking.spanAfter takeChoice
-    passes-choice is = passes AwaitsChoice v a s false byte refl (rw (address-for-nobody c place unshared 0b1010 byte (omega arith) is))
+    passes-choice is =
+        either (λ (d : Chip). step d v a s (Sent false byte) ≡ (quiet c, a, s)) (geometryOf (c .control .part) .identifies) (awaiting AwaitsChoice c) c
+        (passes AwaitsChoice v a s false byte refl (rw (address-for-nobody c place unshared 0b1010 byte (omega arith) is)))
+        (passes-byte v a s byte)
 
   pub rest-clashes : (event : Event) → clashesWith event (c .control .phase) ≡ false
   rest-clashes Start = refl
@@ -225,15 +241,21 @@ module _ (c : Chip) (rest : isAtRest c ≡ true) where
 
   awaiting-unloaded : (phase : Phase) → isLoading (awaiting phase c) ≡ false
   awaiting-unloaded phase =
-      either (λ (d : Chip). isLoading d ≡ false) (isBusy (c .control .phase)) c (woken phase c) (not-true _ (and-left _ _ empty-handed)) refl
+      either (λ (d : Chip). isLoading d ≡ false) (isBusy (c .control .phase)) c (woken phase c) unloaded refl
 
   pub waiting-sends-nothing : (next : Next) → isSending (whileAnothersTurn next c .control .phase) ≡ false
   waiting-sends-nothing Anything = sends-nothing
   waiting-sends-nothing AddressByte = awaiting-sends-nothing AwaitsAddress refl
-  waiting-sends-nothing ChoiceByte = awaiting-sends-nothing AwaitsChoice refl
+  waiting-sends-nothing ChoiceByte =
+      either (λ (d : Chip). isSending (d .control .phase) ≡ false) (geometryOf (c .control .part) .identifies) (awaiting AwaitsChoice c) c
+      (awaiting-sends-nothing AwaitsChoice refl)
+      sends-nothing
 
   -- and it holds no load
   pub waiting-unloaded : (next : Next) → isLoading (whileAnothersTurn next c) ≡ false
-  waiting-unloaded Anything = not-true _ (and-left _ _ empty-handed)
+  waiting-unloaded Anything = unloaded
   waiting-unloaded AddressByte = awaiting-unloaded AwaitsAddress
-  waiting-unloaded ChoiceByte = awaiting-unloaded AwaitsChoice
+  waiting-unloaded ChoiceByte =
+      either (λ (d : Chip). isLoading d ≡ false) (geometryOf (c .control .part) .identifies) (awaiting AwaitsChoice c) c
+      (awaiting-unloaded AwaitsChoice)
+      unloaded

@@ -6,7 +6,7 @@ use mathlib.Core.Path.{_≡_, refl, ap, subst}
 use Rattle.base.specs.Fold.{upTo}
 use Rattle.parts.specs.Part.{geometryOf}
 use Rattle.load.specs.Load.{storePage}
-use Rattle.addressing.specs.Address.{callOf, takeAddress, takeBusy, takeChoice}
+use Rattle.addressing.specs.Address.{callByForm, callOf, takeAddress, takeBusy, takeChoice}
 use Rattle.taking.specs.Taking as taking
 use Rattle.sending.specs.Sending.{read}
 use Rattle.cycle.specs.Stop.{stop}
@@ -25,7 +25,7 @@ use Rattle.turns.proofs.Entering.{Entering, entering-kept}
 
 -- who unfolds it unfolds all that an event and a turn are made of
 unfoldable pub eventByEvent : Bench
-unfolding event played line.play line.valuesAfter chip.step chip.valuesAfter taking.take taking.spanAfter taking.valuesAfter takeAddress takeBusy takeChoice callOf geometryOf read stop storePage upTo addressedOf placesOf areTurns isTurnAt isRestOfTurn eventsOf turnsOf beganAt answersOf after answersTo
+unfolding event played line.play line.valuesAfter chip.step chip.valuesAfter taking.take taking.spanAfter taking.valuesAfter takeAddress takeBusy takeChoice callOf callByForm geometryOf read stop storePage upTo addressedOf placesOf areTurns isTurnAt isRestOfTurn eventsOf turnsOf beganAt answersOf after answersTo
 eventByEvent = event
 
 -- what entered still enters with it

@@ -34,7 +34,7 @@ use Rattle.turns.specs.Shuffle.{eventsOf, answersOf, answerOf, turnOf, i
 use Rattle.turns.specs.Alone.{onlyBus, alone, ownTurns}
 use Rattle.turns.specs.Playing.{ending}
 use Rattle.turns.specs.Benches.{ourBench}
-use Rattle.turns.specs.Undisturbed.{Ready, Turns, Alike}
+use Rattle.turns.specs.Undisturbed.{Ready, Turns, Alike, acknowledge}
 use Rattle.turns.proofs.Entering.{Entering, Idling, idling}
 use Rattle.turns.proofs.OneTurn.{alone-idles}
 use Rattle.turns.proofs.Typed.{ControlTyped, standby-typed, busy-typed, fresh-typed, unloaded-typed, empty-typed, no-values-typed}
@@ -307,3 +307,19 @@ unfolding eventByEvent
 remembering-in-both-orders =
     let answers = by-events (pairWith true busy busy) (record { typed = remembering-is-ready .0; enters = remembering-is-ready .1 .enters }) in
     ((refl, answers (firstEnds ∷ secondPolls ∷ [])), (refl, answers (secondPolls ∷ firstEnds ∷ [])))
+
+-- the excepted answer on boards with an AT24CM01 (request E7): two of it; it beside a busy 24CS32; busy beside a 24CS32; both free
+abbrev boardOf : Control → Control → Bus
+boardOf first second =
+    let unloaded : Control → Chip = λ c. record { control = c; span = emptySpan } in
+    busWith 2 false (unloaded first ∷ unloaded second ∷ emptyChip ∷ emptyChip ∷ []) noValues
+
+pub f8-on-mixed-boards :
+    acknowledge (boardOf (fresh 3 0) (fresh 3 1))
+    ∷ acknowledge (boardOf (fresh 3 0) (inPhase Busy (fresh 2 4)))
+    ∷ acknowledge (boardOf (inPhase Busy (fresh 3 0)) (fresh 2 4))
+    ∷ acknowledge (boardOf (fresh 3 0) (fresh 2 4))
+    ∷ []
+    ≡ 0x0000 ∷ 0x0000 ∷ 0x0001 ∷ 0x0001 ∷ []
+unfolding upTo geometryOf
+f8-on-mixed-boards = refl

@@ -23,7 +23,7 @@ pub mod Undisturbed
 pub mod Ran
 pub mod Setup
 pub mod Loaded
-mod Computing
+pub mod Computing
 pub mod Examples
 pub mod Accepted
 mod OneCounter

@@ -2,12 +2,10 @@
 use Prim.Native.Nat.{ℕ, zero, suc, _%_, _<_, _^_}
 use native.Mathlib.Nat.{mod-lt}
 use native.Mathlib.Omega.{arith}
-use mathlib.Core.Bool.{true, _&&_}
+use mathlib.Core.Bool.{true}
 use mathlib.Core.List.{List, [], _∷_, map}
 use mathlib.Core.Path.{_≡_, _∙_, refl, sym, ap, subst}
-use lib.Dec.{ltb}
 use lib.ListN.{length, length-map, set, replicate}
-use borrow.Author.Tests.{lt-ltb}
 use Rattle.base.proofs.logic.Laws.{and-left, and-right, and-both, either-if}
 use Rattle.base.proofs.Fold.{up-same}
 use Rattle.base.proofs.Every.{every-of}
@@ -18,8 +16,9 @@ use Rattle.control.specs.declared.Control.{Control}
 use Rattle.control.specs.Control.{arraycounterAt}
 use Rattle.chip.specs.declared.Chip.{Chip}
 use Rattle.chip.proofs.Typed.{ChipTyped}
-use Rattle.wellformed.specs.Wellformed.{isSetUp, countersFit, controlFits}
+use Rattle.wellformed.specs.Wellformed.{controlFits}
 use Rattle.wellformed.specs.Wellformed as one-chip
+use Rattle.wellformed.proofs.Laws.{below-fits}
 use Rattle.wellformed.specs.Beside.{sideBySide}
 use Rattle.refusal.specs.declared.Verdict.the-variants.{Passed}
 use Rattle.refusal.specs.Checks.{firstOf}
@@ -29,6 +28,7 @@ use Rattle.lineup.specs.Chips.{noChip, chipAt, controlAt, placeOf, placesOf}
 use Rattle.bus.specs.declared.Bus.{Bus}
 use Rattle.bus.specs.Step.{entryChecks, busWith}
 use Rattle.bus.proofs.Typed.{OfItsType, count-fits, has-four, values-typed, bus-typed, chip-typed}
+use Rattle.promises.proofs.Keeping.Fits.{Fits, apart, together, array-fits}
 use Rattle.promises.proofs.Keeping.Good.{inside-of, unloaded-fits}
 use Rattle.promises.proofs.Formed.{formed-of, of-formed, entry-of, of-entry}
 use Rattle.turns.specs.Benches.{movedTo, shared}
@@ -64,15 +64,9 @@ module _ (at : ℕ) where
       moved : isEmpty (c .span) ≡ true → one-chip.wellFormed (elsewhere c) ≡ true
       moved empty =
           let held : Control = c .control in
-          let size : ℕ = geometryOf (held .part) .array in
-          let fits : controlFits held ≡ true = and-left _ _ formed in
-          let front : (isSetUp held && countersFit held) ≡ true = and-left _ _ fits in
-          let counters : countersFit held ≡ true = and-right (isSetUp held) _ front in
-          let inside : ltb (at % size) size ≡ true = lt-ltb _ _ (counter-inside (held .part)) in
+          let fits : Fits held = apart held (and-left _ _ formed) in
           and-both _ _
-          (and-both _ _
-          (and-both _ _ (and-left (isSetUp held) _ front) (and-both _ _ inside (and-right (ltb (held .arraycounter) size) _ counters)))
-          (and-right (isSetUp held && countersFit held) _ fits))
+          (together (elsewhere c .control) (array-fits held fits _ (below-fits _ _ (counter-inside (held .part)))))
           (unloaded-fits (elsewhere c .control) (c .span) (inside-of held (c .span) (and-right (controlFits held) _ formed), empty))
 
   same-beside : (c d : Chip) → sideBySide (movedTo at c .control) (movedTo at d .control) ≡ sideBySide (c .control) (d .control)

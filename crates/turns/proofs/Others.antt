@@ -8,7 +8,6 @@ use Rattle.parts.specs.Part.{geometryOf}
 use Rattle.parts.specs.Address.{shareAddress}
 use Rattle.control.specs.declared.Said.{Said}
 use Rattle.control.specs.declared.Said.the-variants.{Nothing, Ack}
-use Rattle.control.specs.Phase.{isBusy}
 use Rattle.chip.specs.declared.Chip.{Chip}
 use Rattle.chip.specs.declared.event.Event.{Event}
 use Rattle.chip.specs.declared.event.Event.the-variants.{Start, Stop, Sent, Read}
@@ -19,6 +18,7 @@ use Rattle.promises.specs.Playing.{World}
 use Rattle.turns.specs.Idle.{isAtRest}
 use Rattle.turns.specs.Turn.{Anything, AddressByte, ChoiceByte, isAddressOf, isFirstByte}
 use Rattle.turns.specs.Alone.{alone}
+use Rattle.turns.specs.Undisturbed.{isFree}
 use Rattle.turns.proofs.Bystander.{hears-start, hears-f8, passes-first, passes-choice, passes-byte, passes-read, passes-stop, rest-clashes, waiting-sends-nothing, waiting-unloaded}
 use Rattle.turns.proofs.During.{SitsThrough}
 
@@ -27,7 +27,7 @@ abbrev pub silent : Chip → Said
 silent c = Nothing
 
 abbrev pub toF8 : Chip → Said
-toF8 c = cond (isBusy (c .control .phase)) Nothing Ack
+toF8 c = cond (isFree (c .control)) Ack Nothing
 
 -- the chips beside k when its turn begins: at rest, and no address byte of k is theirs
 pub record Others (k : ℕ) (place : Place) (began : World) : Type 0 where

@@ -5,9 +5,12 @@ use mathlib.Core.Bool.{Bool, true, false, cond, not, _&&_, _||_, and-false, fals
 use mathlib.Core.List.{List}
 use mathlib.Core.Path.{_≡_, refl, ap}
 use Rattle.base.proofs.logic.Laws.{and-left, and-right, or-right, or-either, either-if, either}
+use Rattle.parts.specs.declared.part.Geometry.{Geometry}
+use Rattle.parts.specs.Part.{geometryOf}
 use Rattle.load.specs.Span.{isEmpty, dropped}
 use Rattle.load.specs.Load.{Load, loadOf}
 use Rattle.control.specs.declared.Control.{Control}
+use Rattle.control.specs.declared.Answered.{Answered}
 use Rattle.control.specs.declared.Said.the-variants.{Nothing, Ack}
 use Rattle.control.specs.declared.phase.Phase.{Phase}
 use Rattle.control.specs.declared.phase.Phase.the-variants.{Busy, AwaitsAddress}
@@ -18,10 +21,14 @@ use Rattle.control.specs.declared.phase.Came.the-variants.{Zero, One, Two, Thre
 use Rattle.control.specs.Phase.{isBusy, takesData, isSending, isTaking, awaitsAddress}
 use Rattle.control.specs.Control.{idlockedNow, configured}
 use Rattle.control.specs.Exchange.{standbyNow, busyNow}
+use Rattle.control.specs.Said.{occupied, stays}
 use Rattle.control.specs.Bits.{configlock}
 use Rattle.control.proofs.phase.Laws.{busy-is, awaits-address-is}
 use Rattle.configuration.specs.Configuration.{confirms, stopConfiguration}
-use Rattle.addressing.specs.Address.{callOf, takeAddress, takeBusy}
+use Rattle.addressing.specs.declared.Call.{Call}
+use Rattle.addressing.specs.declared.Call.the-variants.{HostF8, Nobody}
+use Rattle.addressing.specs.Address.{callByForm, callOf, takeCall, takeAddress, isNamed, takeBusy}
+use Rattle.addressing.proofs.Laws.{busy-either}
 use Rattle.taking.specs.Taking as taking
 use Rattle.cycle.specs.Stop.{writesArray, writesSecurity, stopData, stop}
 use Rattle.cycle.proofs.Laws.{stop-either}
@@ -29,10 +36,12 @@ use Rattle.chip.specs.declared.Chip.{Chip}
 use Rattle.chip.specs.declared.event.Event.{Event}
 use Rattle.chip.specs.declared.event.Event.the-variants.{Start, Stop, Sent, Read, Wp, CycleOver, PowerUp}
 use Rattle.chip.specs.Chip.{step}
-use Rattle.wellformed.specs.Wellformed.{isSetUp, countersFit, placeFits, unusedBitsClear, busyNotChosen, controlFits, wellFormed}
+use Rattle.wellformed.specs.Wellformed.{busyNotChosen, controlFits, wellFormed}
+use Rattle.promises.proofs.Keeping.Fits.{apart}
 use Rattle.promises.proofs.Keeping.Good.{unloaded-of}
 use Rattle.promises.proofs.Keeping.Beside.{namesAChip}
 use Rattle.turns.specs.Idle.{isAtRest}
+use Rattle.turns.specs.Undisturbed.{isFree}
 use Rattle.turns.proofs.Bystander.{woken}
 
 -- a Stop ends the exchange without a cycle or with one, and the load is gone
@@ -76,9 +85,7 @@ stop-rests c v a s formed =
     empty is = unloaded-of (c .control) (c .span) (ap takesData is) (and-right (controlFits (c .control)) _ formed) .1
 
     unchosen : busyNotChosen (c .control) ≡ true
-    unchosen =
-        and-right (unusedBitsClear (c .control) && placeFits (c .control .phase)) _
-        (and-right (isSetUp (c .control) && countersFit (c .control)) _ (and-left _ _ formed))
+    unchosen = apart (c .control) (and-left _ _ formed) .busy
 
 pub named-rests : (c : Chip) (v a s : List ℕ) (event : Event) → namesAChip event ≡ true → isAtRest c ≡ true → isAtRest (step c v a s event .0 .chip) ≡ true
 unfolding step
@@ -114,18 +121,34 @@ heeds phase heeding P address busy =
 pub heeding-sends-nothing : (phase : Phase) → isHeeding phase ≡ true → isSending phase ≡ false
 heeding-sends-nothing phase heeding = heeds phase heeding (λ (p : Phase). isSending p ≡ false) refl refl
 
--- F8h names no chip, so it is the same to a busy one whether it is the first byte after a Start or not
+-- F8h names no chip, so it is the same to a busy one whether it is the first byte after a Start or not; and it is for a chip that identifies itself
 module _ (c : Chip) (v a s : List ℕ) (first : Bool) (heeding : isHeeding (c .control .phase) ≡ true) where
+  abbrev figures : Geometry
+  figures = geometryOf (c .control .part)
+
+  f8-called : (P : Bool → Call → Type 0) → P true HostF8 → P false Nobody → P (figures .identifies) (callOf figures (c .control .strap) 0xF8)
+  unfolding callOf callByForm
+  f8-called P for-it for-nobody = go (figures .identifies)
+    where
+      go : (able : Bool) → P able (cond able HostF8 Nobody)
+      go true = for-it
+      go false = for-nobody
+
   pub f8-heeds : isSending (step c v a s (Sent first 0xF8) .0 .chip .control .phase) ≡ false
-  unfolding step taking.take takeAddress takeBusy callOf
+  unfolding step taking.take takeAddress
   f8-heeds =
       heeds (c .control .phase) heeding (λ (p : Phase). isSending (taking.takeIn p (c .control) first 0xF8 .control .phase) ≡ false)
-      refl
-      (rw (and-false first) (heeding-sends-nothing (c .control .phase) heeding))
+      (f8-called (λ (able : Bool) (call : Call). isSending (takeCall call (c .control) .control .phase) ≡ false) refl refl)
+      (busy-either (c .control) first 0xF8 (λ (x : Answered). isSending (x .control .phase) ≡ false) awake awake)
+    where
+      awake : isSending (c .control .phase) ≡ false
+      awake = heeding-sends-nothing (c .control .phase) heeding
 
-  pub f8-said : step c v a s (Sent first 0xF8) .0 .said ≡ cond (isBusy (c .control .phase)) Nothing Ack
-  unfolding step taking.take takeAddress takeBusy callOf
+  pub f8-said : step c v a s (Sent first 0xF8) .0 .said ≡ cond (isFree (c .control)) Ack Nothing
+  unfolding step taking.take takeAddress takeBusy
   f8-said =
-      heeds (c .control .phase) heeding (λ (p : Phase). taking.takeIn p (c .control) first 0xF8 .said ≡ cond (isBusy p) Nothing Ack)
-      refl
+      heeds (c .control .phase) heeding (λ (p : Phase). taking.takeIn p (c .control) first 0xF8 .said ≡ cond (figures .identifies && not (isBusy p)) Ack Nothing)
+      (f8-called (λ (able : Bool) (call : Call). takeCall call (c .control) .said ≡ cond (able && true) Ack Nothing) refl refl)
+      (f8-called (λ (able : Bool) (call : Call). cond (first && isNamed call) (occupied (c .control)) (stays (c .control)) .said ≡ cond (able && false) Ack Nothing)
       (rw (and-false first))
+      (rw (and-false first)))

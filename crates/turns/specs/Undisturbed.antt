@@ -1,11 +1,13 @@
 -- Demand 3: turns of different chips may be shuffled.
 use Prim.Native.Nat.{ℕ, _+_, _<_}
-use mathlib.Core.Bool.{Bool, true, false, cond, not}
+use mathlib.Core.Bool.{Bool, true, false, cond, not, _&&_}
 use mathlib.Core.List.{List}
 use mathlib.Core.Path.{_≡_}
 use lib.ListN.{take}
 use Rattle.base.specs.Fold.{anyBelow}
 use Rattle.base.specs.Word.{wordOf}
+use Rattle.parts.specs.Part.{geometryOf}
+use Rattle.control.specs.declared.Control.{Control}
 use Rattle.control.specs.Phase.{isBusy}
 use Rattle.refusal.specs.declared.Verdict.the-variants.{Passed}
 use Rattle.refusal.specs.Checks.{firstOf}
@@ -44,11 +46,14 @@ pub record AsAlone (k : ℕ) (turns : List Turn) (one byItself : Ending) : Type 
   pub ends : forgetting (alone k (one .0)) ≡ forgetting (seen (byItself .0))
   pub answers : (j i : ℕ) → isExcepted (turnOf k turns j) i ≡ false → answerOf k turns (one .1) j i ≡ answerOf 0 (ownTurns k turns) (byItself .1) j i
 
--- some chip is not busy
-abbrev pub isSomeFree : Bus → Bool
-isSomeFree bus = anyBelow (λ (i : ℕ). not (isBusy (controlAt (bus .chips) i .phase))) (placed (bus .count))
+-- a chip that identifies itself, one of part 1 or 2 (request E7), and is not busy
+abbrev pub isFree : Control → Bool
+isFree c = geometryOf (c .part) .identifies && not (isBusy (c .phase))
 
--- the acknowledge of F8h, by the bus that it meets: 01 exactly when some chip is not busy
+abbrev pub isSomeFree : Bus → Bool
+isSomeFree bus = anyBelow (λ (i : ℕ). isFree (controlAt (bus .chips) i)) (placed (bus .count))
+
+-- the acknowledge of F8h, by the bus that it meets: 01 exactly when some chip of part 1 or 2 is not busy
 abbrev pub acknowledge : Bus → ℕ
 acknowledge bus = wordOf 0 (cond (isSomeFree bus) 0x01 0x00)
 

@@ -1,17 +1,22 @@
 -- Both sides of clauses of refusal 10, computed: the place in the ID (request E5), and each clause on a load (request E10). The first place and
--- the count at the page's end, a load on standby, and a counter that stands where the next byte runs on, and one place off.
+-- the count at the page's end, a load on standby, and a counter that stands where the next byte runs on, and one place off. Then what an AT24CM01
+-- does not have (request E7).
 use Prim.Native.Nat.{ℕ}
-use mathlib.Core.Bool.{true, false}
-use mathlib.Core.List.{[], _∷_, map}
+use mathlib.Core.Bool.{Bool, true, false}
+use mathlib.Core.List.{List, [], _∷_, map}
 use mathlib.Core.Path.{_≡_, refl}
 use Rattle.parts.specs.Part.{geometryOf}
+use Rattle.load.specs.Span.{emptySpan}
 use Rattle.control.specs.declared.Control.{Control}
-use Rattle.control.specs.declared.phase.Phase.the-variants.{Standby, TakesData, SendsByte}
+use Rattle.control.specs.declared.phase.Phase.{Phase}
+use Rattle.control.specs.declared.phase.Phase.the-variants.{Standby, Busy, AwaitsAddress, AwaitsChoice, AwaitsWord, TakesData, SendsByte}
+use Rattle.control.specs.declared.phase.Word.the-variants.{ArrayFirst, ArraySecond, RegisterFirst, RegisterSecond}
 use Rattle.control.specs.declared.phase.Data.{Data}
 use Rattle.control.specs.declared.phase.Data.the-variants.{ToArray, ToSecurity, ToConfiguration, ToLock, ToNowhere}
 use Rattle.control.specs.declared.phase.Came.the-variants.{Zero}
-use Rattle.control.specs.declared.phase.Source.the-variants.{FromId}
-use Rattle.control.specs.Control.{inPhase, arraycounterAt, securitycounterAt}
+use Rattle.control.specs.declared.phase.Source.the-variants.{FromArray, FromSecurity, FromConfiguration, FromId, FromNothing}
+use Rattle.control.specs.declared.phase.Shown.the-variants.{ShowsNothing}
+use Rattle.control.specs.Control.{inPhase, showing, choosing, arraycounterAt, securitycounterAt, idlockedNow, configured, wpAt}
 use Rattle.control.specs.Control as control
 use Rattle.chip.specs.declared.Chip.{Chip}
 use Rattle.chip.specs.Chip.{fresh}
@@ -89,3 +94,41 @@ pub security-counter-on-both-sides :
     map (λ (at : ℕ). wellFormed (loading (securityAt 1 at) 254 2)) (511 ∷ 256 ∷ 257 ∷ []) ≡ false ∷ true ∷ false ∷ []
 unfolding wellFormed geometryOf
 security-counter-on-both-sides = refl
+
+-- a fresh AT24CM01, and beside it a fresh 24CSM01, with one thing changed
+abbrev onBoth : (Control → Control) → Bool × Bool
+onBoth change =
+    let formed : Control → Bool = λ c. wellFormed (record { control = c; span = emptySpan }) in
+    (formed (change (control.fresh 3 0)), formed (change (control.fresh 1 0)))
+
+-- what both have
+pub array-side-on-both : map onBoth (wpAt true ∷ arraycounterAt 0x1FFFF ∷ arraycounterAt 0x20000 ∷ showing ShowsNothing ∷ [])
+    ≡ (true, true) ∷ (true, true) ∷ (false, false) ∷ (true, true) ∷ []
+unfolding wellFormed geometryOf
+array-side-on-both = refl
+
+-- its security counter is well formed exactly when 0, its registers are all unused bits, and it is never chosen
+pub without-registers-on-both : map onBoth (securitycounterAt 0 ∷ securitycounterAt 1 ∷ configured 2 0 ∷ configured 0 1 ∷ idlockedNow ∷ choosing false ∷ choosing true ∷ [])
+    ≡ (true, true) ∷ (false, true) ∷ (false, true) ∷ (false, true) ∷ (false, true) ∷ (true, true) ∷ (false, true) ∷ []
+unfolding wellFormed geometryOf
+without-registers-on-both = refl
+
+abbrev inPhases : List Phase → List (Bool × Bool)
+inPhases phases = map (λ (phase : Phase). onBoth (inPhase phase)) phases
+
+pub array-phases-on-both :
+    inPhases (Standby ∷ Busy ∷ AwaitsAddress ∷ AwaitsWord (ArrayFirst true) ∷ AwaitsWord (ArraySecond true 0) ∷ TakesData ToArray ∷ SendsByte FromArray ∷ [])
+    ≡ (true, true) ∷ (true, true) ∷ (true, true) ∷ (true, true) ∷ (true, true) ∷ (true, true) ∷ (true, true) ∷ []
+unfolding wellFormed geometryOf
+array-phases-on-both = refl
+
+pub register-phases-on-both :
+    inPhases (AwaitsWord RegisterFirst ∷ AwaitsWord (RegisterSecond 0x08) ∷ TakesData ToSecurity ∷ TakesData (ToConfiguration Zero) ∷ TakesData (ToLock false)
+    ∷ TakesData ToNowhere ∷ SendsByte FromSecurity ∷ SendsByte (FromConfiguration false) ∷ SendsByte FromNothing ∷ [])
+    ≡ (false, true) ∷ (false, true) ∷ (false, true) ∷ (false, true) ∷ (false, true) ∷ (false, true) ∷ (false, true) ∷ (false, true) ∷ (false, true) ∷ []
+unfolding wellFormed geometryOf
+register-phases-on-both = refl
+
+pub identity-phases-on-both : inPhases (AwaitsChoice ∷ SendsByte (FromId 0) ∷ []) ≡ (false, true) ∷ (false, true) ∷ []
+unfolding wellFormed geometryOf
+identity-phases-on-both = refl

@@ -8,46 +8,71 @@ use control::Control;
 use control::phase::Data;
 use control::phase::Phase;
 use control::phase::Source;
+use control::phase::Word;
 use control::phase::awaits_address;
 use control::phase::is_busy;
 use control::phase::is_sending;
 use control::phase::is_taking;
 use control::phase::takes_data;
 use load::Span;
+use parts::part::Geometry;
 use parts::part::geometry_of;
 use parts::part::is_part;
 ghost use mathlib.Core.Path.{_≡_};
-ghost use Rattle.wellformed.specs.Wellformed.{isSetUp, countersFit, idPlaceFits, placeFits, busyNotChosen, controlFits, nextDataRunsOn, nextRunsOn, spanFits, wellFormed, heedsStart};
+ghost use Rattle.wellformed.specs.Wellformed.{isSetUp, counterFits, countersFit, sourceFits, dataFits, wordFits, phaseFits, unusedBitsClear, busyNotChosen, onlyAbleChosen, controlFits, nextDataRunsOn, nextRunsOn, spanFits, wellFormed, heedsStart};
 
 // Configuration byte 0 has no bit but 1 and 0.
 const CONFIG0_END: u8 = 4;
 
 const ID_BYTES: u8 = 3;
 
-fn id_place_fits(source: Source) -> bool
-    ensures { λ r. ⌜ r ≡ idPlaceFits source ⌝ }
+// What is sent is something that the part has (request E7), and the place in the ID is one of its bytes.
+fn source_fits(g: Geometry, source: Source) -> bool
+    ensures { λ r. ⌜ r ≡ sourceFits g source ⌝ }
 {
     match source {
         Source::FromArray => true,
-        Source::FromSecurity => true,
-        Source::FromConfiguration(_) => true,
-        Source::FromId(place) => place < ID_BYTES,
-        Source::FromNothing => true,
+        Source::FromSecurity => g.registers,
+        Source::FromConfiguration(_) => g.registers,
+        Source::FromId(place) => and(g.identifies, place < ID_BYTES),
+        Source::FromNothing => g.registers,
     }
 }
 
-// Where a chip sends its ID, the place is one of its bytes.
-fn place_fits(phase: Phase) -> bool
-    ensures { λ r. ⌜ r ≡ placeFits phase ⌝ }
+fn data_fits(g: Geometry, kind: Data) -> bool
+    ensures { λ r. ⌜ r ≡ dataFits g kind ⌝ }
+{
+    match kind {
+        Data::ToArray => true,
+        Data::ToSecurity => g.registers,
+        Data::ToConfiguration(_) => g.registers,
+        Data::ToLock(_) => g.registers,
+        Data::ToNowhere => g.registers,
+    }
+}
+
+fn word_fits(g: Geometry, word: Word) -> bool
+    ensures { λ r. ⌜ r ≡ wordFits g word ⌝ }
+{
+    match word {
+        Word::ArrayFirst(_) => true,
+        Word::ArraySecond(_, _) => true,
+        Word::RegisterFirst => g.registers,
+        Word::RegisterSecond(_) => g.registers,
+    }
+}
+
+fn phase_fits(g: Geometry, phase: Phase) -> bool
+    ensures { λ r. ⌜ r ≡ phaseFits g phase ⌝ }
 {
     match phase {
         Phase::Standby => true,
         Phase::Busy => true,
         Phase::AwaitsAddress => true,
-        Phase::AwaitsChoice => true,
-        Phase::AwaitsWord(_) => true,
-        Phase::TakesData(_) => true,
-        Phase::SendsByte(source) => id_place_fits(source),
+        Phase::AwaitsChoice => g.identifies,
+        Phase::AwaitsWord(word) => word_fits(g, word),
+        Phase::TakesData(kind) => data_fits(g, kind),
+        Phase::SendsByte(source) => source_fits(g, source),
     }
 }
 
@@ -58,11 +83,35 @@ fn is_set_up(c: Control) -> bool
     and(is_part(c.part), c.strap < straps)
 }
 
+// A counter that has no region is 0 (request E7).
+fn counter_fits(size: u32, at: u32) -> bool
+    ensures { λ r. ⌜ r ≡ counterFits size at ⌝ }
+{
+    if size == 0 {
+        return at == 0;
+    }
+    at < size
+}
+
 fn counters_fit(c: Control) -> bool
     ensures { λ r. ⌜ r ≡ countersFit c ⌝ }
 {
     let g = geometry_of(c.part);
-    and(c.arraycounter < g.array, c.securitycounter < g.security)
+    and(
+        counter_fits(g.array, c.arraycounter),
+        counter_fits(g.security, c.securitycounter),
+    )
+}
+
+// Of a part without registers every bit is unused, and so is the lock of its ID page (request E7).
+fn unused_bits_clear(c: Control) -> bool
+    ensures { λ r. ⌜ r ≡ unusedBitsClear c ⌝ }
+{
+    let registers = geometry_of(c.part).registers;
+    if registers {
+        return c.config0 < CONFIG0_END;
+    }
+    and(and(c.config0 == 0, c.config1 == 0), !c.idlocked)
 }
 
 fn busy_not_chosen(c: Control) -> bool
@@ -72,15 +121,21 @@ fn busy_not_chosen(c: Control) -> bool
     !and(is_busy(phase), c.chosen)
 }
 
+fn only_able_chosen(c: Control) -> bool
+    ensures { λ r. ⌜ r ≡ onlyAbleChosen c ⌝ }
+{
+    let identifies = geometry_of(c.part).identifies;
+    or(!c.chosen, identifies)
+}
+
 fn control_fits(c: Control) -> bool
     ensures { λ r. ⌜ r ≡ controlFits c ⌝ }
 {
     let phase = c.phase;
-    let registers = and(c.config0 < CONFIG0_END, place_fits(phase));
-    and(
-        and(is_set_up(c), counters_fit(c)),
-        and(registers, busy_not_chosen(c)),
-    )
+    let g = geometry_of(c.part);
+    let places = and(unused_bits_clear(c), phase_fits(g, phase));
+    let choice = and(busy_not_chosen(c), only_able_chosen(c));
+    and(and(is_set_up(c), counters_fit(c)), and(places, choice))
 }
 
 // Where the next byte of these data would be loaded, it runs on from those that came.

@@ -11,7 +11,7 @@ use lib.Dec.{ltb}
 use borrow.Author.Tests.{lt-ltb, ltb-true, eq-eqb, eqb-true}
 use Rattle.base.proofs.logic.Laws.{and-left, and-right, and-both}
 use Rattle.parts.specs.declared.part.Geometry.{Geometry}
-use Rattle.parts.specs.Part.{geometry24CSM01, geometry24CS32, Sound}
+use Rattle.parts.specs.Part.{geometry24CSM01, geometry24CS32, geometryAT24CM01, Sound}
 use Rattle.parts.specs.Address.{codesOf, answers, firstCode, shareAddress}
 
 module _ (g : Geometry) (sound : Sound g) where
@@ -50,9 +50,9 @@ module _ (g : Geometry) (sound : Sound g) where
         div-mul-le-self 8 (g .straps),
       )
 
--- the 24CSM01 at strap s answers 2s and 2s + 1, the 24CS32 at strap t answers t
-pub codes-each : (codesOf geometry24CSM01 ≡ 2) × (codesOf geometry24CS32 ≡ 1)
-codes-each = (refl, refl)
+-- the 24CSM01 and the AT24CM01 at strap s answer 2s and 2s + 1, the 24CS32 at strap t answers t
+pub codes-each : (codesOf geometry24CSM01 ≡ 2) × (codesOf geometry24CS32 ≡ 1) × (codesOf geometryAT24CM01 ≡ 2)
+codes-each = (refl, refl, refl)
 
 abbrev pub Both : Geometry → ℕ → Geometry → ℕ → ℕ → Type 0
 Both g strap h beside code = (answers g strap code ≡ true) × (answers h beside code ≡ true)

@@ -20,7 +20,7 @@ use Rattle.control.specs.Control.{inPhase}
 use Rattle.control.proofs.phase.Laws.{busy-is, awaits-address-is, awaiting-is, resting-is}
 use Rattle.addressing.specs.declared.Call.{Call}
 use Rattle.addressing.specs.declared.Call.the-variants.{HostF8, HostF9, Nobody}
-use Rattle.addressing.specs.Address.{callOf, takeCall, takeAddress, takeChosen, takeChoice}
+use Rattle.addressing.specs.Address.{callByForm, isAble, callOf, takeCall, takeAddress, takeChosen, takeChoice}
 use Rattle.addressing.proofs.Laws.{busy-either}
 use Rattle.taking.specs.Taking.{takeIn, take}
 use Rattle.sending.specs.Sending.{readIn, read}
@@ -181,9 +181,15 @@ choice-hears c quiet =
     let inert : Inert (inPhase Standby c) = (λ is. quiet (chosen-active c is), false≢true) in
     record { choice = inert .0; identity = inert .1; chosen = λ is. absurd (inert .0 is); nobody = inert }
 
--- the call that a byte is for a chip, and whether the chip answers the code in it
+-- the call that a byte is for a chip: what it asks by its form, whether the part is able to do that, and whether the chip answers the code in it
 abbrev called : Control → ℕ → Call
 called c byte = callOf (geometryOf (c .part)) (c .strap) byte
+
+abbrev asked : Control → ℕ → Call
+asked c byte = callByForm (geometryOf (c .part)) (c .strap) byte
+
+abbrev able : Control → ℕ → Bool
+able c byte = isAble (geometryOf (c .part)) (asked c byte)
 
 abbrev answered : Control → ℕ → Bool
 answered c byte = answers (geometryOf (c .part)) (c .strap) (byte / 2 % 8)
@@ -199,7 +205,7 @@ listens c first byte P waits settled all =
     (λ address. all _ (choice-hears c (λ is. false≢true (address is))))
     settled
 
--- F8h and F9h are the same call to both chips, and no other byte is for both
+-- F8h and F9h ask both chips the same, and no other byte is for both; what a part is not able to do is asked of nobody
 module _ (c d : Control) (b : Beside c d) (for-c for-d : Call → Control) (p : Hears c for-c) (q : Hears d for-d) where
   by-tests : (f8 f9 mine yours : Bool) (x y : Call) → (mine ≡ true → Never yours)
       → Beside (for-c (cond f8 HostF8 (cond f9 HostF9 (cond mine x Nobody)))) (for-d (cond f8 HostF8 (cond f9 HostF9 (cond yours y Nobody))))
@@ -215,17 +221,23 @@ module _ (c d : Control) (b : Beside c d) (for-c for-d : Call → Control) (p : 
   by-tests false false true false x y one = swapped (inert-beside (q .nobody))
   by-tests false false false yours x y one = inert-beside (p .nobody)
 
+  if-able : (mine yours : Bool) (x y : Call) → Beside (for-c x) (for-d y) → Beside (for-c (cond mine x Nobody)) (for-d (cond yours y Nobody))
+  if-able true true x y asked = asked
+  if-able true false x y asked = swapped (inert-beside (q .nobody))
+  if-able false yours x y asked = inert-beside (p .nobody)
+
 abbrev Unshared : Control → Control → Type 0
 Unshared c d = shareAddress (geometryOf (c .part)) (c .strap) (geometryOf (d .part)) (d .strap) ≡ false
 
 both-hear : (c d : Control) (first : Bool) (byte : ℕ) → Unshared c d → Beside c d → isAwaiting (c .phase) ≡ true → isAwaiting (d .phase) ≡ true → Beside (takeIn (c .phase) c first byte .control) (takeIn (d .phase) d first byte .control)
-unfolding callOf
+unfolding callOf callByForm
 both-hear c d first byte unshared b is other =
     let shared = share-exactly-when _ (c .strap) _ (d .strap) (sound-of (c .part)) (sound-of (d .part)) .1 in
     listens c first byte (λ (x : Control). Beside x (takeIn (d .phase) d first byte .control)) is (λ active. b .first active other) λ for-c p.
     listens d first byte (λ (y : Control). Beside (for-c (called c byte)) y) other (λ active. b .second active is) λ for-d q.
-    by-tests c d b for-c for-d p q (eqb byte 0xF8) (eqb byte 0xF9) (answered c byte) (answered d byte) _ _
-    (λ mine yours. false≢true (sym unshared ∙ shared (byte / 2 % 8, (mine, yours))))
+    if-able c d b for-c for-d p q (able c byte) (able d byte) (asked c byte) (asked d byte)
+    (by-tests c d b for-c for-d p q (eqb byte 0xF8) (eqb byte 0xF9) (answered c byte) (answered d byte) _ _
+    (λ mine yours. false≢true (sym unshared ∙ shared (byte / 2 % 8, (mine, yours)))))
 
 -- an inert chip takes no notice of a byte, and one that awaits none of a read
 take-inert : (c : Control) (first : Bool) (byte : ℕ) → Inert c → Inert (takeIn (c .phase) c first byte .control)

@@ -5,14 +5,14 @@ use native.Mathlib.Omega.{arith}
 use mathlib.Core.Bool.{Bool, cond, not, _&&_}
 use mathlib.Core.List.{List, [], _∷_}
 use mathlib.Core.Path.{subst}
-use lib.Dec.{eqb}
 use lib.ListN.{replicate}
 use Rattle.base.specs.Every.{FitsByte, AllBytes}
 use Rattle.base.proofs.logic.Laws.{either}
 use Rattle.base.proofs.Fold.{up-keeps}
 use Rattle.base.proofs.Every.{every-at, every-set}
 use Rattle.parts.specs.declared.part.Geometry.{Geometry}
-use Rattle.parts.specs.Part.{geometry24CSM01, geometry24CS32, geometryOf}
+use Rattle.parts.specs.Part.{geometryOf}
+use Rattle.parts.proofs.part.Laws.{sound-of}
 use Rattle.regions.specs.Page.{pageOf}
 use Rattle.load.specs.Load.{Load, loadOf, isLoaded, storePlace, storePage}
 use Rattle.control.specs.declared.Control.{Control}
@@ -114,10 +114,6 @@ module _ (c : Control) (byte : ℕ) (now : ControlBytes c) (sent : FitsByte byte
   take-bytes first (SendsByte source) held = (now, tt)
 
 -- a byte read
-id-bytes : (part : ℕ) → AllBytes (geometryOf part .id)
-unfolding geometryOf
-id-bytes part = either (λ (g : Geometry). AllBytes (g .id)) (eqb part 1) geometry24CSM01 geometry24CS32 (omega arith) (omega arith)
-
 module _ (c : Control) (array security : List ℕ) (now : ControlBytes c) where
   moved-bytes : (source : Source) → ControlBytes (movedPast source c)
   moved-bytes FromArray = now
@@ -138,7 +134,7 @@ module _ (c : Control) (array security : List ℕ) (now : ControlBytes c) where
     byte-from FromArray = every-at FitsByte array (c .arraycounter) noByte in-array (omega arith)
     byte-from FromSecurity = every-at FitsByte security (c .securitycounter) noByte in-security (omega arith)
     byte-from (FromConfiguration second) = either FitsByte second (c .config1) (c .config0) (now .1 .0) (now .0)
-    byte-from (FromId place) = every-at FitsByte (geometryOf (c .part) .id) place noByte (id-bytes (c .part)) (omega arith)
+    byte-from (FromId place) = every-at FitsByte (geometryOf (c .part) .id) place noByte (sound-of (c .part) .id-bytes) (omega arith)
     byte-from FromNothing = omega arith
 
     read-says : (phase : Phase) (nack : Bool) → SaidByte (readIn phase c array security nack .said)

@@ -15,7 +15,7 @@ use Rattle.control.specs.declared.phase.Data.the-variants.{ToArray, ToSecurity,
 use Rattle.control.specs.Phase.{isBusy, takesData}
 use Rattle.control.specs.Control.{inPhase, choosing, wpAt}
 use Rattle.control.specs.Exchange.{standbyNow, busyNow}
-use Rattle.wellformed.specs.Wellformed.{placeFits, onlyDataLoads, nextDataRunsOn, nextRunsOn, spanFits}
+use Rattle.wellformed.specs.Wellformed.{dataFits, phaseFits, onlyDataLoads, nextDataRunsOn, nextRunsOn, spanFits}
 use Rattle.promises.proofs.Keeping.Fits.{Fits, in-phase-fits, choosing-fits}
 
 -- the clauses of a chip and of the load it holds
@@ -49,7 +49,7 @@ unchosen false = refl
 module _ (c : Control) (f : Fits c) where
   -- no chosen chip is busy, so dropping a choice is always right
   pub choice-dropped : Fits (choosing false c)
-  choice-dropped = choosing-fits c f false (unchosen (isBusy (c .phase)))
+  choice-dropped = choosing-fits c f false (unchosen (isBusy (c .phase))) refl
 
   pub standby-now-fits : Fits (standbyNow c)
   standby-now-fits = in-phase-fits _ choice-dropped Standby refl refl
@@ -102,16 +102,16 @@ wp-spans c span level spans =
 
 module _ (c : Control) (span : Span) (f : Fits c) where
   -- so a chip with an empty load may go to any phase that its control may
-  pub moves : Unloaded c span → (phase : Phase) → placeFits phase ≡ true → not (isBusy phase && c .chosen) ≡ true → Good (inPhase phase c) span
+  pub moves : Unloaded c span → (phase : Phase) → phaseFits (geometryOf (c .part)) phase ≡ true → not (isBusy phase && c .chosen) ≡ true → Good (inPhase phase c) span
   moves empty phase place busy = (in-phase-fits c f phase place busy, unloaded-fits (inPhase phase c) span empty)
 
   pub standby : Unloaded c span → Good (inPhase Standby c) span
   standby empty = moves empty Standby refl refl
 
   -- and one that takes data holds what is inside its page, where the next byte runs on
-  pub loads : (kind : Data) → Inside c span → nextDataRunsOn kind (inPhase (TakesData kind) c) span ≡ true → Good (inPhase (TakesData kind) c) span
-  loads kind inside next =
-      (in-phase-fits c f (TakesData kind) refl refl, and-both _ _ inside (and-both (onlyDataLoads (inPhase (TakesData kind) c) span) _ (or-right (isEmpty span) _ refl) next))
+  pub loads : (kind : Data) → dataFits (geometryOf (c .part)) kind ≡ true → Inside c span → nextDataRunsOn kind (inPhase (TakesData kind) c) span ≡ true → Good (inPhase (TakesData kind) c) span
+  loads kind has inside next =
+      (in-phase-fits c f (TakesData kind) has refl, and-both _ _ inside (and-both (onlyDataLoads (inPhase (TakesData kind) c) span) _ (or-right (isEmpty span) _ refl) next))
 
 -- a load that was inside is so once it is emptied, and then it fits
 pub emptied-unloaded : (c : Control) (span : Span) → Inside c span → Unloaded c (dropped span)

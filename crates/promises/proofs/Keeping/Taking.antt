@@ -1,12 +1,13 @@
 -- A byte sent keeps the clauses: counters come from a remainder or go round their page, which is inside the region, and whoever
--- stops taking data drops its load.
+-- stops taking data drops its load. What needs registers is reached from a phase that needs them or by a 1011 byte, which only a part that has
+-- them is asked; what needs identification likewise, by F8h and F9h.
 use Prim.Native.Nat.{ℕ, _<_}
 use mathlib.Core.Bool.{Bool, true, false, cond, _&&_}
 use mathlib.Core.Path.{_≡_, refl, ap, subst}
-use borrow.Author.Tests.{ltb-true}
-use Rattle.base.proofs.logic.Laws.{and-right, either}
+use Rattle.base.proofs.logic.Laws.{and-right, and-both, either}
+use Rattle.parts.specs.declared.part.Geometry.{Geometry}
 use Rattle.parts.specs.Part.{geometryOf, Sound}
-use Rattle.parts.proofs.part.Laws.{sound-of}
+use Rattle.parts.proofs.part.Laws.{sound-of, array-some, security-of}
 use Rattle.regions.proofs.page.Laws.{next-inside}
 use Rattle.regions.proofs.counter.Laws.{array-counter-below, security-counter-below}
 use Rattle.load.specs.declared.Span.{Span}
@@ -30,97 +31,105 @@ use Rattle.control.specs.Control.{inPhase, showing}
 use Rattle.control.specs.Said.{acked, silent}
 use Rattle.addressing.specs.declared.Call.{Call}
 use Rattle.addressing.specs.declared.Call.the-variants.{ReadArray, WriteArray, ReadRegister, WriteRegister, HostF8, HostF9, Nobody}
-use Rattle.addressing.specs.Address.{callOf, sourceOf, takeCall, takeAddress, takeChoice}
-use Rattle.addressing.proofs.Laws.{choice-either, busy-either}
+use Rattle.addressing.specs.Address.{callOf, isAble, sourceOf, takeCall, takeAddress, takeChoice}
+use Rattle.addressing.proofs.Laws.{able-call, choice-either, busy-either}
 use Rattle.wordaddress.specs.declared.Register.{Register}
 use Rattle.wordaddress.specs.declared.Register.the-variants.{Security, Configuration, Lock, Nowhere}
 use Rattle.wordaddress.specs.WordAddress.{registerOf, isLock, takeNamed, takeWord}
 use Rattle.taking.specs.Taking.{takeData, takeIn, spanData, spanIn}
-use Rattle.wellformed.specs.Wellformed.{idPlaceFits, onlyDataLoads, nextDataRunsOn, nextRunsOn}
+use Rattle.wellformed.specs.Wellformed.{sourceFits, dataFits, wordFits, phaseFits, onlyDataLoads, nextDataRunsOn, nextRunsOn}
+use Rattle.wellformed.proofs.Laws.{below-fits, fits-below}
 use Rattle.promises.proofs.Keeping.Fits.{Fits, in-phase-fits, showing-fits, choosing-fits, array-fits, security-fits}
 use Rattle.promises.proofs.Keeping.Good.{Good, page, Inside, Unloaded, inside-of, unloaded-of, choice-dropped, moves, standby, loads, emptied-unloaded}
 
-source-fits : (shown : Shown) → idPlaceFits (sourceOf shown) ≡ true
-source-fits ShowsSecurity = refl
-source-fits ShowsConfiguration = refl
-source-fits ShowsNothing = refl
+source-fits : (g : Geometry) → g .registers ≡ true → (shown : Shown) → sourceFits g (sourceOf shown) ≡ true
+source-fits g has ShowsSecurity = has
+source-fits g has ShowsConfiguration = has
+source-fits g has ShowsNothing = has
 
 module _ (c : Control) (span : Span) (f : Fits c) (empty : Unloaded c span) where
-  call-good : (call : Call) → Good (takeCall call c .control) span
-  call-good ReadArray = moves _ span (choice-dropped c f) empty (SendsByte FromArray) refl refl
-  call-good (WriteArray a16) = moves _ span (choice-dropped c f) empty (AwaitsWord (ArrayFirst a16)) refl refl
-  call-good ReadRegister = moves _ span (choice-dropped c f) empty (SendsByte (sourceOf (c .shown))) (source-fits (c .shown)) refl
-  call-good WriteRegister = moves _ span (choice-dropped c f) empty (AwaitsWord RegisterFirst) refl refl
-  call-good HostF8 = moves _ span (choice-dropped c f) empty AwaitsChoice refl refl
-  call-good HostF9 =
-      either (λ (x : Answered). Good (x .control) span) (c .chosen) (acked (SendsByte (FromId 0)) c) (silent Standby c)
-      (moves c span f empty (SendsByte (FromId 0)) refl refl)
-      (standby c span f empty)
-  call-good Nobody = standby _ span (choice-dropped c f) empty
+  abbrev g : Geometry
+  g = geometryOf (c .part)
 
-  chosen-good : (byte : ℕ) → Good (takeChoice c byte .control) span
-  chosen-good byte =
+  call-good : (call : Call) → isAble g call ≡ true → Good (takeCall call c .control) span
+  call-good ReadArray able = moves _ span (choice-dropped c f) empty (SendsByte FromArray) refl refl
+  call-good (WriteArray a16) able = moves _ span (choice-dropped c f) empty (AwaitsWord (ArrayFirst a16)) refl refl
+  call-good ReadRegister able = moves _ span (choice-dropped c f) empty (SendsByte (sourceOf (c .shown))) (source-fits g able (c .shown)) refl
+  call-good WriteRegister able = moves _ span (choice-dropped c f) empty (AwaitsWord RegisterFirst) able refl
+  call-good HostF8 able = moves _ span (choice-dropped c f) empty AwaitsChoice able refl
+  call-good HostF9 able =
+      either (λ (x : Answered). Good (x .control) span) (c .chosen) (acked (SendsByte (FromId 0)) c) (silent Standby c)
+      (moves c span f empty (SendsByte (FromId 0)) (and-both _ _ able refl) refl)
+      (standby c span f empty)
+  call-good Nobody able = standby _ span (choice-dropped c f) empty
+
+  chosen-good : (byte : ℕ) → g .identifies ≡ true → Good (takeChoice c byte .control) span
+  chosen-good byte able =
       choice-either c byte (λ (x : Answered). Good (x .control) span)
-      (choosing-fits (inPhase Standby c) (in-phase-fits c f Standby refl refl) true refl, standby c span f empty .1)
+      (choosing-fits (inPhase Standby c) (in-phase-fits c f Standby refl refl) true refl able, standby c span f empty .1)
       (standby c span f empty)
 
   -- a chip begins to take data with an empty load
-  begins : (d : Control) → Fits d → Unloaded d span → (kind : Data) → Good (inPhase (TakesData kind) d) span
-  begins d fits none kind = moves d span fits none (TakesData kind) refl refl
+  begins : (d : Control) → Fits d → Unloaded d span → (kind : Data) → dataFits (geometryOf (d .part)) kind ≡ true → Good (inPhase (TakesData kind) d) span
+  begins d fits none kind has = moves d span fits none (TakesData kind) has refl
 
-  named-good : (register : Register) (first byte : ℕ) → Good (takeNamed register first c byte .control) span
-  named-good Security first byte =
-      let set = security-fits c f _ (security-counter-below _ (sound-of (c .part)) false first byte) in
-      begins _ (showing-fits _ set ShowsSecurity) empty ToSecurity
-  named-good Configuration first byte = begins _ (showing-fits c f ShowsConfiguration) empty (ToConfiguration Zero)
-  named-good Lock first byte =
+  named-good : (register : Register) (first byte : ℕ) → g .registers ≡ true → Good (takeNamed register first c byte .control) span
+  named-good Security first byte has =
+      let set = security-fits c f _ (below-fits _ _ (security-counter-below _ (sound-of (c .part)) false first byte has)) in
+      begins _ (showing-fits _ set ShowsSecurity) empty ToSecurity has
+  named-good Configuration first byte has = begins _ (showing-fits c f ShowsConfiguration) empty (ToConfiguration Zero) has
+  named-good Lock first byte has =
       either (λ (x : Answered). Good (x .control) span) (c .idlocked) (silent Standby c) (acked (TakesData (ToLock false)) (showing ShowsNothing c))
       (standby c span f empty)
-      (begins _ (showing-fits c f ShowsNothing) empty (ToLock false))
-  named-good Nowhere first byte = begins _ (showing-fits c f ShowsNothing) empty ToNowhere
+      (begins _ (showing-fits c f ShowsNothing) empty (ToLock false) has)
+  named-good Nowhere first byte has = begins _ (showing-fits c f ShowsNothing) empty ToNowhere has
 
-  word-good : (word : Word) (byte : ℕ) → Good (takeWord word c byte .control) span
-  word-good (ArrayFirst a16) byte = moves c span f empty (AwaitsWord (ArraySecond a16 byte)) refl refl
-  word-good (ArraySecond a16 first) byte =
-      begins _ (array-fits c f _ (array-counter-below _ (sound-of (c .part)) a16 first byte)) empty ToArray
-  word-good RegisterFirst byte =
+  word-good : (word : Word) (byte : ℕ) → wordFits g word ≡ true → Good (takeWord word c byte .control) span
+  word-good (ArrayFirst a16) byte has = moves c span f empty (AwaitsWord (ArraySecond a16 byte)) refl refl
+  word-good (ArraySecond a16 first) byte has =
+      begins _ (array-fits c f _ (below-fits _ _ (array-counter-below _ (sound-of (c .part)) a16 first byte))) empty ToArray refl
+  word-good RegisterFirst byte has =
       either (λ (x : Answered). Good (x .control) span) (c .idlocked && isLock (registerOf byte)) (silent Standby c) (acked (AwaitsWord (RegisterSecond byte)) c)
       (standby c span f empty)
-      (moves c span f empty (AwaitsWord (RegisterSecond byte)) refl refl)
-  word-good (RegisterSecond first) byte = named-good (registerOf first) first byte
+      (moves c span f empty (AwaitsWord (RegisterSecond byte)) has refl)
+  word-good (RegisterSecond first) byte has = named-good (registerOf first) first byte has
 
 module _ (c : Control) (span : Span) (f : Fits c) (inside : Inside c span) where
   sound : Sound (geometryOf (c .part))
   sound = sound-of (c .part)
 
-  lock-good : (locked : Bool) → Good (cond locked (silent Standby c) (acked (TakesData (ToLock true)) c) .control) (cond locked (dropped span) span)
-  lock-good true = standby c (dropped span) f (emptied-unloaded c span inside)
-  lock-good false = loads c span f (ToLock true) inside refl
+  lock-good : geometryOf (c .part) .registers ≡ true → (locked : Bool) → Good (cond locked (silent Standby c) (acked (TakesData (ToLock true)) c) .control) (cond locked (dropped span) span)
+  lock-good has true = standby c (dropped span) f (emptied-unloaded c span inside)
+  lock-good has false = loads c span f (ToLock true) has inside refl
 
   -- a byte that is loaded ran on, and the next one will: once over any figures, for the array and for the security register
-  data-good : (kind : Data) (byte : ℕ) → nextDataRunsOn kind c span ≡ true → Good (takeData kind c byte .control) (spanData kind span c)
-  data-good ToArray byte runs =
-      let below : c .arraycounter < geometryOf (c .part) .array = ltb-true _ _ (f .array) in
-      let moved = array-fits c f _ (next-inside _ sound (c .arraycounter) (geometryOf (c .part) .array) (sound .array-whole) below) in
-      loads _ (grownAt (geometryOf (c .part)) (c .arraycounter) span) moved ToArray (put-inside _ span inside sound (c .arraycounter)) (put-runs-on _ span inside sound (c .arraycounter) runs)
-  data-good ToSecurity byte runs =
-      let below : c .securitycounter < geometryOf (c .part) .security = ltb-true _ _ (f .security) in
-      let moved = security-fits c f _ (next-inside _ sound (c .securitycounter) (geometryOf (c .part) .security) (sound .security-whole) below) in
-      loads _ (grownAt (geometryOf (c .part)) (c .securitycounter) span) moved ToSecurity (put-inside _ span inside sound (c .securitycounter)) (put-runs-on _ span inside sound (c .securitycounter) runs)
-  data-good (ToConfiguration came) byte runs = loads c span f _ inside refl
-  data-good (ToLock some) byte runs = lock-good (c .idlocked)
-  data-good ToNowhere byte runs = loads c span f _ inside refl
+  data-good : (kind : Data) (byte : ℕ) → dataFits (geometryOf (c .part)) kind ≡ true → nextDataRunsOn kind c span ≡ true → Good (takeData kind c byte .control) (spanData kind span c)
+  data-good ToArray byte has runs =
+      let below : c .arraycounter < geometryOf (c .part) .array = fits-below _ _ (array-some sound) (f .array) in
+      let moved = array-fits c f _ (below-fits _ _ (next-inside _ sound (c .arraycounter) (geometryOf (c .part) .array) (sound .array-whole) below)) in
+      loads _ (grownAt (geometryOf (c .part)) (c .arraycounter) span) moved ToArray refl (put-inside _ span inside sound (c .arraycounter)) (put-runs-on _ span inside sound (c .arraycounter) runs)
+  data-good ToSecurity byte has runs =
+      let below : c .securitycounter < geometryOf (c .part) .security = fits-below _ _ (security-of sound has) (f .security) in
+      let moved = security-fits c f _ (below-fits _ _ (next-inside _ sound (c .securitycounter) (geometryOf (c .part) .security) (sound .security-whole) below)) in
+      loads _ (grownAt (geometryOf (c .part)) (c .securitycounter) span) moved ToSecurity has (put-inside _ span inside sound (c .securitycounter)) (put-runs-on _ span inside sound (c .securitycounter) runs)
+  data-good (ToConfiguration came) byte has runs = loads c span f _ has inside refl
+  data-good (ToLock some) byte has runs = lock-good has (c .idlocked)
+  data-good ToNowhere byte has runs = loads c span f _ has inside refl
+
+-- what a chip is about is something that its part has
+pub about : (phase : Phase) (c : Control) → c .phase ≡ phase → Fits c → phaseFits (geometryOf (c .part)) phase ≡ true
+about phase c is f = subst (λ (phase : Phase). phaseFits (geometryOf (c .part)) phase ≡ true) is (f .place)
 
 -- a byte sent
 pub take-good : (phase : Phase) (c : Control) (span : Span) (first : Bool) (byte : ℕ) → c .phase ≡ phase → Good c span → Good (takeIn phase c first byte .control) (spanIn phase span c)
 unfolding takeAddress
 take-good Standby c span first byte is good = good
 take-good Busy c span first byte is good = busy-either c first byte (λ (x : Answered). Good (x .control) span) good good
-take-good AwaitsAddress c span first byte is good = call-good c span (good .0) (unloaded-of c span (ap takesData is) (good .1)) (callOf (geometryOf (c .part)) (c .strap) byte)
-take-good AwaitsChoice c span first byte is good = chosen-good c span (good .0) (unloaded-of c span (ap takesData is) (good .1)) byte
-take-good (AwaitsWord word) c span first byte is good = word-good c span (good .0) (unloaded-of c span (ap takesData is) (good .1)) word byte
+take-good AwaitsAddress c span first byte is good = call-good c span (good .0) (unloaded-of c span (ap takesData is) (good .1)) (callOf (geometryOf (c .part)) (c .strap) byte) (able-call _ (c .strap) byte)
+take-good AwaitsChoice c span first byte is good = chosen-good c span (good .0) (unloaded-of c span (ap takesData is) (good .1)) byte (about AwaitsChoice c is (good .0))
+take-good (AwaitsWord word) c span first byte is good = word-good c span (good .0) (unloaded-of c span (ap takesData is) (good .1)) word byte (about (AwaitsWord word) c is (good .0))
 take-good (TakesData kind) c span first byte is good =
     let clauses : (onlyDataLoads c span && nextRunsOn (c .phase) c span) ≡ true = and-right (insidePage (page c) span) _ (good .1) in
-    data-good c span (good .0) (inside-of c span (good .1)) kind byte
+    data-good c span (good .0) (inside-of c span (good .1)) kind byte (about (TakesData kind) c is (good .0))
     (subst (λ (phase : Phase). nextRunsOn phase c span ≡ true) is (and-right (onlyDataLoads c span) _ clauses))
 take-good (SendsByte source) c span first byte is good = good

@@ -3,18 +3,18 @@
 -- keep their length.
 use Prim.Native.Nat.{ℕ, _<_, _≤_}
 use native.Mathlib.Omega.{arith}
-use mathlib.Core.Bool.{Bool, true, false, _||_}
+use mathlib.Core.Bool.{true}
 use mathlib.Core.List.{List, [], _∷_}
 use mathlib.Core.Path.{_≡_, _∙_, refl}
-use lib.Dec.{eqb}
 use lib.ListN.{length, length-replicate, length-set}
 use mir.Val.{Val}
-use borrow.Author.Tests.{eqb-true, ltb-true}
+use borrow.Author.Tests.{ltb-true}
 use denote.Laws.{Is}
 use Rattle.base.specs.Every.{AllBytes}
 use Rattle.base.proofs.logic.Laws.{and-left, and-right}
+use Rattle.parts.specs.declared.part.Geometry.{Geometry}
 use Rattle.parts.specs.Part.{isPart, geometryOf}
-use Rattle.parts.proofs.part.Laws.{sound-of}
+use Rattle.parts.proofs.part.Laws.{sound-of, part-most}
 use Rattle.load.specs.declared.Span.{Span}
 use Rattle.load.specs.Span.{insidePage}
 use Rattle.load.proofs.Span as spans
@@ -43,7 +43,8 @@ use Rattle.chip.specs.declared.Chip.{Chip}
 use Rattle.chip.specs.declared.event.Event.{Event}
 use Rattle.chip.specs.Chip.{step, valuesAfter}
 use Rattle.chip.proofs.Typed.{ChipTyped}
-use Rattle.wellformed.specs.Wellformed.{idPlaceFits, placeFits, controlFits, wellFormed}
+use Rattle.wellformed.specs.Wellformed.{sourceFits, phaseFits, controlFits, wellFormed}
+use Rattle.wellformed.proofs.Laws.{fits-most}
 use Rattle.promises.specs.ChipBytes.{bytesCame, bytesTaken, bytesAwaiting, bytesIn, ChipBytes, EventByte}
 use Rattle.promises.proofs.Keeping.Bytes.{chip-keeps-bytes}
 use Rattle.promises.proofs.Keeping.Fits.{Fits, apart}
@@ -107,48 +108,40 @@ word-typed (ArraySecond a16 first) bytes = (_, (_, (refl, ((_, (_, tt)), (refl, 
 word-typed RegisterFirst bytes = (_, (_, (refl, (tt, (refl, tt)))))
 word-typed (RegisterSecond first) bytes = (_, (_, (refl, ((_, tt), (refl, ((refl, bytes .0), tt))))))
 
-source-typed : (source : Source) → idPlaceFits source ≡ true → (u : Val) × Is sources.the-row source (u ∷ [])
-source-typed FromArray fits = (_, (_, (refl, (tt, (refl, tt)))))
-source-typed FromSecurity fits = (_, (_, (refl, (tt, (refl, tt)))))
-source-typed (FromConfiguration second) fits = (_, (_, (refl, ((_, tt), (refl, (refl, tt))))))
-source-typed (FromId place) fits = (_, (_, (refl, ((_, tt), (refl, ((refl, omega (arith, ltb-true place 3 fits)), tt))))))
-source-typed FromNothing fits = (_, (_, (refl, (tt, (refl, tt)))))
+source-typed : (g : Geometry) (source : Source) → sourceFits g source ≡ true → (u : Val) × Is sources.the-row source (u ∷ [])
+source-typed g FromArray fits = (_, (_, (refl, (tt, (refl, tt)))))
+source-typed g FromSecurity fits = (_, (_, (refl, (tt, (refl, tt)))))
+source-typed g (FromConfiguration second) fits = (_, (_, (refl, ((_, tt), (refl, (refl, tt))))))
+source-typed g (FromId place) fits = (_, (_, (refl, ((_, tt), (refl, ((refl, omega (arith, ltb-true place 3 (and-right (g .identifies) _ fits))), tt))))))
+source-typed g FromNothing fits = (_, (_, (refl, (tt, (refl, tt)))))
 
 shown-typed : (shown : Shown) → (u : Val) × Is showns.the-row shown (u ∷ [])
 shown-typed ShowsSecurity = (_, (_, (refl, (tt, (refl, tt)))))
 shown-typed ShowsConfiguration = (_, (_, (refl, (tt, (refl, tt)))))
 shown-typed ShowsNothing = (_, (_, (refl, (tt, (refl, tt)))))
 
-phase-typed : (phase : Phase) → placeFits phase ≡ true → AllBytes (bytesIn phase) → (u : Val) × Is phases.the-row phase (u ∷ [])
-phase-typed Standby fits bytes = (_, (_, (refl, (tt, (refl, tt)))))
-phase-typed Busy fits bytes = (_, (_, (refl, (tt, (refl, tt)))))
-phase-typed AwaitsAddress fits bytes = (_, (_, (refl, (tt, (refl, tt)))))
-phase-typed AwaitsChoice fits bytes = (_, (_, (refl, (tt, (refl, tt)))))
-phase-typed (AwaitsWord word) fits bytes = (_, (_, (refl, ((_, tt), (refl, (word-typed word bytes .1, tt))))))
-phase-typed (TakesData kind) fits bytes = (_, (_, (refl, ((_, tt), (refl, (data-typed kind bytes .1, tt))))))
-phase-typed (SendsByte source) fits bytes = (_, (_, (refl, ((_, tt), (refl, (source-typed source fits .1, tt))))))
-
--- a part is 1 or 2
-part-fits : (part : ℕ) → isPart part ≡ true → part < 256
-part-fits part is = go (eqb part 1) refl is
-  where
-    go : (first : Bool) → eqb part 1 ≡ first → (first || eqb part 2) ≡ true → part < 256
-    go true e h = omega (arith, eqb-true part 1 e)
-    go false e h = omega (arith, eqb-true part 2 h)
+phase-typed : (g : Geometry) (phase : Phase) → phaseFits g phase ≡ true → AllBytes (bytesIn phase) → (u : Val) × Is phases.the-row phase (u ∷ [])
+phase-typed g Standby fits bytes = (_, (_, (refl, (tt, (refl, tt)))))
+phase-typed g Busy fits bytes = (_, (_, (refl, (tt, (refl, tt)))))
+phase-typed g AwaitsAddress fits bytes = (_, (_, (refl, (tt, (refl, tt)))))
+phase-typed g AwaitsChoice fits bytes = (_, (_, (refl, (tt, (refl, tt)))))
+phase-typed g (AwaitsWord word) fits bytes = (_, (_, (refl, ((_, tt), (refl, (word-typed word bytes .1, tt))))))
+phase-typed g (TakesData kind) fits bytes = (_, (_, (refl, ((_, tt), (refl, (data-typed kind bytes .1, tt))))))
+phase-typed g (SendsByte source) fits bytes = (_, (_, (refl, ((_, tt), (refl, (source-typed g source fits .1, tt))))))
 
 control-typed : (c : Control) → Fits c → AllBytes (c .config0 ∷ c .config1 ∷ bytesIn (c .phase)) → (u : Val) × Is controls.the-row c (u ∷ [])
 control-typed c f bytes =
     let sound = sound-of (c .part) in
     let strap : c .strap < geometryOf (c .part) .straps = ltb-true _ _ (and-right (isPart (c .part)) _ (f .set-up)) in
-    let array : c .arraycounter < geometryOf (c .part) .array = ltb-true _ _ (f .array) in
-    let security : c .securitycounter < geometryOf (c .part) .security = ltb-true _ _ (f .security) in (
+    let array : c .arraycounter ≤ geometryOf (c .part) .array = fits-most _ _ (f .array) in
+    let security : c .securitycounter ≤ geometryOf (c .part) .security = fits-most _ _ (f .security) in (
       _,
       (
         (_, (_, (_, (_, (_, (_, (_, (_, (_, (_, (_, tt))))))))))),
         (
           refl,
           (
-            (refl, part-fits (c .part) (and-left _ _ (f .set-up))),
+            (refl, omega (arith, part-most (c .part) (and-left _ _ (f .set-up)))),
             (
               (refl, omega (arith, sound .straps-most)),
               (
@@ -163,7 +156,7 @@ control-typed c f bytes =
                         (refl, omega (arith, sound .array-most)),
                         (
                           (refl, omega (arith, sound .security-most)),
-                          (shown-typed (c .shown) .1, (refl, (phase-typed (c .phase) (f .place) (bytes .1 .1) .1, tt))),
+                          (shown-typed (c .shown) .1, (refl, (phase-typed _ (c .phase) (f .place) (bytes .1 .1) .1, tt))),
                         ),
                       ),
                     ),

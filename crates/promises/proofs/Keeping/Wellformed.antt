@@ -1,9 +1,8 @@
 -- A chip that is well formed stays so under every event, and a fresh one is well formed.
 use Prim.Native.Nat.{ℕ}
-use mathlib.Core.Bool.{true}
+use mathlib.Core.Bool.{Bool, true}
 use mathlib.Core.List.{List}
 use mathlib.Core.Path.{_≡_, refl, ap}
-use borrow.Author.Tests.{lt-ltb}
 use Rattle.base.proofs.logic.Laws.{and-left, and-right, and-both, either-if, either}
 use Rattle.parts.specs.Part.{geometryOf}
 use Rattle.parts.proofs.part.Laws.{sound-of}
@@ -22,12 +21,12 @@ use Rattle.chip.specs.Chip as chip
 use Rattle.wellformed.specs.Wellformed.{wellFormed}
 use Rattle.promises.proofs.Keeping.Fits.{Fits, apart, together, in-phase-fits, showing-fits, array-fits, security-fits, wp-fits}
 use Rattle.wellformed.specs.Wellformed.{isSetUp, controlFits}
+use Rattle.wellformed.proofs.Laws.{zero-fits}
 use Rattle.load.specs.declared.Span.{Span}
 use Rattle.load.specs.Span.{emptySpan, insidePage}
 use Rattle.load.specs.Load.{loadOf}
 use Rattle.load.proofs.Spanning.{empty-span-inside}
 use Rattle.control.specs.Control as control
-use Rattle.parts.proofs.part.Laws.{array-some}
 use Rattle.promises.proofs.Keeping.Good.{Good, Inside, inside-of, unloaded-of, wp-spans, choice-dropped, standby, emptied-good}
 use Rattle.promises.proofs.Keeping.Closed.{Closed, stop-keeps}
 use Rattle.promises.proofs.Keeping.Registers.{Registers, leave}
@@ -59,12 +58,13 @@ module _ (c : Chip) (values array security : List ℕ) (good : Good (c .control)
   unfolding stop
   stop-good =
       either (λ (x : Chip × List ℕ × List ℕ). Good (x .0 .control) (x .0 .span)) (isBusy (c .control .phase)) (c, array, security) _ good
-      (emptied-good _ (c .span) (stop-fits (c .control .phase) (c .control) (loadOf (c .span) values) array security (good .0))
+      (emptied-good _ (c .span) (stop-fits (c .control .phase) (c .control) (loadOf (c .span) values) array security refl (good .0))
       (stop-keeps (λ (d : Control). Inside d (c .span)) (inside-closed (c .span)) (c .control .phase) (c .control) (loadOf (c .span) values) array security (inside-of (c .control) (c .span) (good .1))))
 
   power-up-good : Good (chip.powerUp c .control) (chip.powerUp c .span)
   power-up-good =
-      let counted = security-fits _ (array-fits _ (choice-dropped (c .control) (good .0)) 0 (array-some (sound-of (c .control .part)))) 0 (sound-of (c .control .part) .security-some) in
+      let g = geometryOf (c .control .part) in
+      let counted = security-fits _ (array-fits _ (choice-dropped (c .control) (good .0)) 0 (zero-fits (g .array))) 0 (zero-fits (g .security)) in
       emptied-good _ (c .span) (in-phase-fits _ (showing-fits _ counted ShowsSecurity) Standby refl refl) (inside-of (c .control) (c .span) (good .1))
 
   -- a busy chip holds no load, so it may go to standby
@@ -90,5 +90,18 @@ kept c values array security event formed = formed-of _ (step-good c values arra
 -- a chip as set up is well formed, where its part is known and its strap in range
 pub fresh-is-well-formed : (part strap : ℕ) → isSetUp (control.fresh part strap) ≡ true → wellFormed (chip.fresh part strap) ≡ true
 fresh-is-well-formed part strap set-up =
-    let fits : Fits (control.fresh part strap) = record { set-up = set-up; array = lt-ltb _ _ (array-some (sound-of part)); security = lt-ltb _ _ (sound-of part .security-some); unused = refl; place = refl; busy = refl } in
+    let fits : Fits (control.fresh part strap) =
+    record {
+      set-up = set-up;
+      array = zero-fits (geometryOf part .array);
+      security = zero-fits (geometryOf part .security);
+      unused = either (λ (clear : Bool). clear ≡ true) (geometryOf part .registers) true true refl refl;
+      place = refl;
+      busy = refl;
+      able = refl;
+    } in
     formed-of (chip.fresh part strap) (emptied-good _ emptySpan fits (empty-span-inside _ (sound-of part .page-some)))
+
+-- only a chip that identifies itself is chosen
+pub chosen-identifies : (c : Chip) → wellFormed c ≡ true → c .control .chosen ≡ true → geometryOf (c .control .part) .identifies ≡ true
+chosen-identifies c formed chosen = rw chosen at (good-of c formed .0 .able)

@@ -1,4 +1,5 @@
--- Counters: a word address sets one that lies in its region, whatever the region's size, and both regions of a sound part have one.
+-- Counters: a word address sets one that lies in its region, where that has a byte; the array of a sound part has one, and so has the security
+-- register of a part with registers.
 use Prim.Native.Nat.{ℕ, _+_, _%_, _<_, _≤_}
 use native.Mathlib.Nat.{mod-lt, mod-eq-of-lt, add-mod, mod-mod, zero-add}
 use native.Mathlib.Omega.{arith}
@@ -7,6 +8,7 @@ use mathlib.Core.Path.{_≡_, _∙_, refl, ap}
 use Rattle.base.specs.Word.{wordOf}
 use Rattle.parts.specs.declared.part.Geometry.{Geometry}
 use Rattle.parts.specs.Part.{Sound}
+use Rattle.parts.proofs.part.Laws.{array-some, security-of}
 use Rattle.regions.specs.Counter.{wordAddress, counterIn}
 
 pub counter-below : (size : ℕ) (a16 : Bool) (high low : ℕ) → 0 < size → counterIn size a16 high low < size
@@ -14,10 +16,10 @@ counter-below size a16 high low some = mod-lt (wordAddress a16 high low) some
 
 module _ (g : Geometry) (sound : Sound g) (a16 : Bool) (high low : ℕ) where
   pub array-counter-below : counterIn (g .array) a16 high low < g .array
-  array-counter-below = counter-below (g .array) a16 high low (omega (arith, sound .zone-eight, sound .zone-some))
+  array-counter-below = counter-below (g .array) a16 high low (array-some sound)
 
-  pub security-counter-below : counterIn (g .security) a16 high low < g .security
-  security-counter-below = counter-below (g .security) a16 high low (sound .security-some)
+  pub security-counter-below : g .registers ≡ true → counterIn (g .security) a16 high low < g .security
+  security-counter-below has = counter-below (g .security) a16 high low (security-of sound has)
 
 -- a region that holds all 17 bits is addressed by A16 and 16 bits
 pub all-bits-count : (size : ℕ) (a16 : Bool) (high low : ℕ) → 131072 ≤ size → high < 256 → low < 256 → counterIn size a16 high low ≡ wordAddress a16 high low

@@ -1,7 +1,7 @@
--- Only the ID has a place that can be wrong.
+-- Each arm is the definition at the kind of data that it knows.
 use borrow.Author.Needs.{needs}
-use Rattle.wellformed.proofs.id_place_fits.Statement.{statement}
-use Rattle.wellformed.proofs.id_place_fits.Tie as tie
+use Rattle.wellformed.proofs.data_fits.Statement.{statement}
+use Rattle.wellformed.proofs.data_fits.Tie as tie
 
 enum-told : tie.Need-enum-told
 enum-told c = search needs
@@ -12,11 +12,11 @@ enum-told-2 c = search needs
 enum-told-3 : tie.Need-enum-told-3
 enum-told-3 c = search needs
 
-enum-known-source : tie.Need-enum-known-source
-enum-known-source c = search needs
-
 enum-told-4 : tie.Need-enum-told-4
 enum-told-4 c = search needs
+
+enum-told-5 : tie.Need-enum-told-5
+enum-told-5 c = search needs
 
 returns : tie.Need-returns
 returns c = search needs
@@ -28,20 +28,20 @@ returns-3 : tie.Need-returns-3
 returns-3 c = search needs
 
 returns-4 : tie.Need-returns-4
-returns-4 c = rw (c .before .source .given .1)
+returns-4 c = search needs
 
 returns-5 : tie.Need-returns-5
 returns-5 c = search needs
 
-pub id-place-fits-spec : {M : Type 1} → statement M
-id-place-fits-spec =
+pub data-fits-spec : {M : Type 1} → statement M
+data-fits-spec =
     tie.close
     (tie.spec
     enum-told
     enum-told-2
     enum-told-3
-    enum-known-source
     enum-told-4
+    enum-told-5
     returns
     returns-2
     returns-3

@@ -1,0 +1,5 @@
+pub mod Step
+pub mod Line
+pub mod Turns
+pub mod Board
+pub mod Teeth

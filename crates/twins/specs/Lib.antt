@@ -1,0 +1,3 @@
+pub mod ArrayTurns
+pub mod Twins
+pub mod Board

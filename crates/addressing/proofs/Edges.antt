@@ -1,7 +1,7 @@
 -- What an AT24CM01 says to an address byte beside what a 24CSM01 says (request E7), both at strap 0, awaiting it and busy; computed.
 use Prim.Native.Nat.{ℕ}
 use mathlib.Core.Bool.{true}
-use mathlib.Core.List.{List, [], _∷_, map}
+use mathlib.Core.List.{[], _∷_, map}
 use mathlib.Core.Path.{_≡_, refl}
 use Rattle.parts.specs.Part.{geometryOf}
 use Rattle.control.specs.Control.{fresh, choosing}

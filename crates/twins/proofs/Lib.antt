@@ -3,3 +3,4 @@ pub mod Line
 pub mod Turns
 pub mod Board
 pub mod Teeth
+pub mod Every

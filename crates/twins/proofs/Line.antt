@@ -87,20 +87,20 @@ module _ (world : World) (line : LineOfOne world) where
   abbrev places : List Place
   places = placesOf (bus .chips)
 
-  entry : Entered bus (arrayOf world) (securityOf world)
+  pub entry : Entered bus (arrayOf world) (securityOf world)
   entry = entered bus (arrayOf world) (securityOf world) (line .enters)
 
   alone : placed (bus .count) ≡ 1
   alone = entry .all-placed ∙ line .one
 
-  here : 0 < placed (bus .count)
+  pub here : 0 < placed (bus .count)
   here = omega (arith, alone)
 
-  formed : Formed (bus .count) (bus .started) (bus .chips)
+  pub formed : Formed (bus .count) (bus .started) (bus .chips)
   formed = formed-of (bus .count) (bus .started) (bus .chips) (entry .formed)
 
   -- a store is all its own
-  whole : (region : Region) (store : List ℕ) → length store ≡ startIn region places (placed (bus .count))
+  pub whole : (region : Region) (store : List ℕ) → length store ≡ startIn region places (placed (bus .count))
       → span (startIn region places 0) (sizeIn region (figuresAt places 0)) store ≡ store
   unfolding upTo
   whole region store fits =

@@ -102,7 +102,7 @@ both-either P {one} same {x} {y} {u} {v} first second = rw (← same) (go one re
     go false is = second is
 
 -- the phases of an AT24CM01 that is well formed
-by-phase : (phase : Phase) → phaseFits geometryAT24CM01 phase ≡ true → (P : Phase → Type 0) → P Standby → P Busy → P AwaitsAddress
+pub by-phase : (phase : Phase) → phaseFits geometryAT24CM01 phase ≡ true → (P : Phase → Type 0) → P Standby → P Busy → P AwaitsAddress
     → ((a16 : Bool) → P (AwaitsWord (ArrayFirst a16))) → ((a16 : Bool) (first : ℕ) → P (AwaitsWord (ArraySecond a16 first)))
     → P (TakesData ToArray) → P (SendsByte FromArray)
     → P phase

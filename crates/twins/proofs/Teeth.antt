@@ -3,7 +3,7 @@
 use Prim.Native.Nat.{ℕ, _<_}
 use mathlib.Core.Bool.{true, false}
 use mathlib.Core.List.{List, [], _∷_, map}
-use mathlib.Core.Path.{_≡_, _∙_, refl, ap}
+use mathlib.Core.Path.{_≡_, _∙_, refl}
 use lib.Dec.{lit<}
 use lib.ListN.{length, getD, replicate, length-replicate}
 use Rattle.base.specs.Fold.{upTo}

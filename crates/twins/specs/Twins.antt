@@ -4,10 +4,12 @@ use Prim.Native.Nat.{ℕ}
 use mathlib.Core.Bool.{true, false, _||_}
 use mathlib.Core.List.{List}
 use mathlib.Core.Path.{_≡_}
+use lib.ListN.{replicate}
 use Rattle.parts.specs.Part.{geometry24CSM01, geometryAT24CM01, geometryOf}
 use Rattle.control.specs.declared.Control.{Control}
 use Rattle.control.specs.declared.phase.Phase.{Phase}
 use Rattle.control.specs.Phase.{awaitsAddress}
+use Rattle.control.specs.Control.{fresh, inPhase, arraycounterAt, wpAt}
 use Rattle.control.specs.Bits.{ewpm}
 use Rattle.chip.specs.declared.Chip.{Chip}
 use Rattle.chip.specs.declared.Stepped.{Stepped}
@@ -17,10 +19,11 @@ use Rattle.refusal.specs.declared.Verdict.the-variants.{Passed}
 use Rattle.refusal.specs.Checks.{firstOf}
 use Rattle.board.specs.Stores.{arrayOf, securityOf}
 use Rattle.lineup.specs.Chips.{chipAt}
-use Rattle.bus.specs.Step.{entryChecks, step}
+use Rattle.bus.specs.Step.{entryChecks, busWith, step}
 use Rattle.bus.proofs.Typed.{OfItsType}
 use Rattle.promises.specs.Playing.{World, busOf, after, answersTo}
 use Rattle.turns.specs.Idle.{isLoading}
+use Rattle.turns.specs.Alone.{onlyChips}
 use Rattle.twins.specs.ArrayTurns.{isArrayByte}
 
 -- the same strap, WP level, array counter and phase; neither is chosen. That EWPM of the first is 0 is a fact (10), and no clause
@@ -76,6 +79,16 @@ pub record TwinLines (old new : World) : Type 0 where
   pub started : busOf old .started ≡ busOf new .started
   pub values : isLoading (onlyChip old) ≡ true → busOf old .values ≡ busOf new .values
   pub array : arrayOf old ≡ arrayOf new
+
+-- a 24CSM01 with the array side of a chip and all else as set up; and a line of it, its security register erased
+abbrev pub twinOf : Chip → Chip
+twinOf c =
+    let held = c .control in
+    record { control = inPhase (held .phase) (arraycounterAt (held .arraycounter) (wpAt (held .wp) (fresh 1 (held .strap)))); span = c .span }
+
+abbrev pub twinLine : World → World
+twinLine world =
+    (busWith 1 (busOf world .started) (onlyChips (twinOf (onlyChip world))) (busOf world .values), arrayOf world, replicate (geometry24CSM01 .security) 0xFF)
 
 -- a list of events, played on each: the same answers, and twins at the end
 pub record AsTwins (old new : World) (events : List ℕ) : Type 0 where

@@ -39,6 +39,7 @@ fn source_fits(g: Geometry, source: Source) -> bool
     }
 }
 
+// What is taken, and what is awaited, likewise.
 fn data_fits(g: Geometry, kind: Data) -> bool
     ensures { λ r. ⌜ r ≡ dataFits g kind ⌝ }
 {
@@ -121,6 +122,7 @@ fn busy_not_chosen(c: Control) -> bool
     !and(is_busy(phase), c.chosen)
 }
 
+// A chip that does not identify itself is not chosen (request E7).
 fn only_able_chosen(c: Control) -> bool
     ensures { λ r. ⌜ r ≡ onlyAbleChosen c ⌝ }
 {
@@ -133,9 +135,9 @@ fn control_fits(c: Control) -> bool
 {
     let phase = c.phase;
     let g = geometry_of(c.part);
-    let places = and(unused_bits_clear(c), phase_fits(g, phase));
+    let held = and(unused_bits_clear(c), phase_fits(g, phase));
     let choice = and(busy_not_chosen(c), only_able_chosen(c));
-    and(and(is_set_up(c), counters_fit(c)), and(places, choice))
+    and(and(is_set_up(c), counters_fit(c)), and(held, choice))
 }
 
 // Where the next byte of these data would be loaded, it runs on from those that came.

@@ -176,7 +176,7 @@ span-typed span page most inside =
     let count = count-most page span inside in
     (_, ((_, (_, tt)), (refl, ((refl, omega (arith, first)), ((refl, omega (arith, count)), tt)))))
 
-typed-of : (c : Chip) → wellFormed c ≡ true → ChipBytes c → ChipTyped c
+pub typed-of : (c : Chip) → wellFormed c ≡ true → ChipBytes c → ChipTyped c
 unfolding wellFormed
 typed-of c formed bytes =
     let fits : Fits (c .control) = apart (c .control) (and-left _ _ formed) in

@@ -1,6 +1,6 @@
 -- Two `or`s over three tests.
 use mathlib.Core.Bool.{Bool, _||_}
-use mathlib.Core.Path.{_≡_, _∙_, ap}
+use mathlib.Core.Path.{_∙_, ap}
 use lib.Dec.{eqb}
 use borrow.Author.Needs.{needs}
 use Rattle.parts.proofs.part.is_part.Statement.{statement}

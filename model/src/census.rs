@@ -3,7 +3,8 @@
 use crate::bus::{Bus, ACKNOWLEDGED, DONE, NOT_BUSY, OCCUPIED, READ, SEND, STOP};
 use crate::chip::{Phase, Sends, Takes, Target, NOTHING};
 use crate::generate::{self, Run};
-use crate::images::{self, ImageRun};
+use crate::images::{self, ImageRun, Outcome};
+use crate::looks;
 use crate::part::Part;
 use crate::program::Told;
 use crate::starts;
@@ -23,9 +24,10 @@ pub fn census(runs: u64) {
     }
     let mut tally = Tally::default();
     for seed in 0..runs {
-        tally.watch(&generate::run(seed));
+        let run = generate::run(seed);
+        tally.watch(&run, &images::outcome(&run));
         let run = images::run(seed);
-        tally.add(&run, &images::outcome(&run.run).told);
+        tally.add(&run, &images::outcome(&run.run));
     }
     for (group, counts) in tally.0 {
         for (what, count) in counts {
@@ -46,21 +48,23 @@ impl Tally {
         *self.0.entry(group).or_default().entry(what.to_string()).or_default() += 1;
     }
 
-    /// Counts what a transcript shows of requests E7 and E8; what never comes has its 0.
-    pub fn watch(&mut self, run: &Run) {
+    /// Counts what a transcript shows of requests E7 and E8; what never comes has its 0. Then how it is looked at.
+    pub fn watch(&mut self, run: &Run, outcome: &Outcome) {
+        looks::watch(run, outcome, |group, what| self.count(group, what));
         starts::watch(run, |group, what, is_seen| {
             *self.0.entry(group).or_default().entry(what.to_string()).or_default() += u64::from(is_seen);
         });
     }
 
     /// Counts the texts of a run up to the one that is refused; those behind it are never read.
-    pub fn add(&mut self, ImageRun { run, texts }: &ImageRun, told: &Told) {
-        let (read, number) = match told {
+    pub fn add(&mut self, ImageRun { run, texts }: &ImageRun, outcome: &Outcome) {
+        looks::watch(run, outcome, |group, what| self.count(group, what));
+        let (read, number) = match &outcome.told {
             Told::Refused { place, fault, .. } => (place + 1, Some(fault.reason as u8)),
-            Told::NoChip { .. } => return self.count("boards", "without the chip"),
+            Told::NotThere { .. } => return self.count("boards", "without the chip or page"),
             Told::TooLong { .. } => return self.count("texts", "too long"),
-            Told::Nothing if Bus::set_up(&run.asked().board).is_err() => return self.count("boards", "refused"),
-            Told::Nothing => (texts.len(), None),
+            Told::Board(_) => return self.count("boards", "refused"),
+            Told::Nothing | Told::Malformed(_) => (texts.len(), None),
         };
         let Words { board, loads, .. } = run.asked();
         self.count("boards", format!("of {} chips", board.len()));
@@ -185,7 +189,9 @@ mod tests {
     #[test]
     fn what_requests_e7_and_e8_tell_apart_comes_often() {
         let mut tally = Tally::default();
-        (0..SEEDS).for_each(|seed| tally.watch(&generate::run(seed)));
+        for run in (0..SEEDS).map(generate::run) {
+            tally.watch(&run, &images::outcome(&run));
+        }
         for group in [STARTS, AT24CM01.name] {
             for (what, count) in &tally.0[group] {
                 assert!(*count >= LEAST, "{group}: {what}: {count}");

@@ -160,6 +160,20 @@ impl Chip {
         &self.array
     }
 
+    /// The security register, from outside the line (issue 23).
+    pub fn security(&self) -> &[u8] {
+        &self.security
+    }
+
+    pub fn strap(&self) -> u8 {
+        self.strap
+    }
+
+    /// The counters of the array and of the security register.
+    pub fn counters(&self) -> (usize, usize) {
+        (self.array_counter, self.security_counter)
+    }
+
     pub fn array_mut(&mut self) -> &mut [u8] {
         &mut self.array
     }

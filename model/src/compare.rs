@@ -3,11 +3,13 @@
 use crate::census::{Tally, STARTS};
 use crate::generate::{self, Run};
 use crate::images::{self, Outcome};
+use crate::looks::{LOOKS, MALFORMED};
 use crate::part::PARTS;
 use crate::program::{Folder, Told};
 use crate::rng::Rng;
+use crate::said::Fact;
 use std::fs;
-use std::io::{self, Read, Write};
+use std::io::{self, IsTerminal, Read, Write};
 use std::path::{Path, PathBuf};
 use std::process::{Child, ChildStdin, Command, ExitStatus, Stdio};
 use std::sync::mpsc;
@@ -24,10 +26,15 @@ const MOST_STUCK: usize = 3;
 const GLANCE: Duration = Duration::from_millis(1);
 /// So much output beyond what is expected is read before the bench is cut off.
 const EXTRA_OUTPUT: u64 = 4_096;
-/// A Rust program's status after a panic; a shell reports a signal with a higher one.
-const PANIC_STATUS: i32 = 101;
-/// The start of the answer that ends a run early.
-const RUN_ENDED: &str = "FFFF";
+/// Digits of an answer, and what stands between it and its words in a trace.
+const ANSWER_DIGITS: usize = 8;
+const BEFORE_WORDS: &str = "  ";
+/// With its words an answer is at most so many times as long.
+const LONGER_IN_WORDS: u64 = 40;
+/// How often progress is told where standard error is no terminal.
+const TIMES_TOLD: u64 = 10;
+/// So wide is the line of progress.
+const WIDTH: usize = 40;
 
 /// How a transcript is written to the bench: shares of a hundred, sizes, and the waits that let the bench read.
 const CRUMBS_PERCENT: usize = 20;
@@ -43,8 +50,9 @@ const PACE_SEED: u64 = 0x5041_4345_0000_0000;
 enum Failure {
     NotStarted(io::Error),
     Hung,
-    Crashed(ExitStatus),
+    Status { expected: u8, came: ExitStatus },
     Differs(Difference, ExitStatus),
+    Words { line: usize, fact: Fact, came: String },
     Told { expected: String, came: String },
     File(String, FileFault),
 }
@@ -86,6 +94,7 @@ pub fn compare(bench: &str, runs: u64, first_seed: u64) -> (u64, u64) {
     let images = |seed: u64| (0..IMAGE_RUNS).map(move |place| seed.wrapping_mul(IMAGE_RUNS).wrapping_add(place));
     let sorts = |seed| std::iter::once(Sort::Transcript(seed)).chain(images(seed).map(Sort::Images));
     for (number, sort) in (1..).zip(seeds.flat_map(sorts)) {
+        tell_progress(number, runs * (1 + IMAGE_RUNS));
         let (run, expected) = made(sort, &mut tally);
         let Err(failure) = player.play(sort, &run, &expected) else {
             passed += 1;
@@ -99,11 +108,29 @@ pub fn compare(bench: &str, runs: u64, first_seed: u64) -> (u64, u64) {
             break;
         }
     }
+    clear_progress();
     println!("{runs} transcripts, and {} runs with images", runs * IMAGE_RUNS);
     let parts = PARTS.iter().map(|(_, part)| part.name);
-    let groups = parts.chain([STARTS, "boards", "texts", "shapes", "faults"]);
+    let groups = parts.chain([STARTS, MALFORMED, LOOKS, "boards", "texts", "shapes", "faults"]);
     groups.for_each(|group| tally.print(group));
     (passed, runs * (1 + IMAGE_RUNS) - passed)
+}
+
+/// Tells how far it is: in place on a terminal, else now and then.
+fn tell_progress(number: u64, all: u64) {
+    let text = format!("compare: run {number} of {all}");
+    if io::stderr().is_terminal() {
+        eprint!("{text:WIDTH$}\r");
+    } else if number.is_multiple_of(all.div_ceil(TIMES_TOLD)) {
+        eprintln!("{text}");
+    }
+}
+
+/// Makes room for other lines.
+fn clear_progress() {
+    if io::stderr().is_terminal() {
+        eprint!("{:WIDTH$}\r", "");
+    }
 }
 
 /// A run, and what the model makes of it.
@@ -112,13 +139,13 @@ fn made(sort: Sort, tally: &mut Tally) -> (Run, Outcome) {
         Sort::Transcript(seed) => {
             let run = generate::run(seed);
             let expected = images::outcome(&run);
-            tally.watch(&run);
+            tally.watch(&run, &expected);
             (run, expected)
         }
         Sort::Images(seed) => {
             let images = images::run(seed);
             let expected = images::outcome(&images.run);
-            tally.add(&images, &expected.told);
+            tally.add(&images, &expected);
             (images.run, expected)
         }
     }
@@ -126,6 +153,7 @@ fn made(sort: Sort, tally: &mut Tally) -> (Run, Outcome) {
 
 /// Says what failed, and how to play it again.
 fn report(player: &Player, sort: Sort, run: &Run, failure: &Failure) {
+    clear_progress();
     let bench = player.bench.display();
     let words = run.words.join(" ");
     let shown = if words.is_empty() { "none" } else { &words };
@@ -139,8 +167,12 @@ fn report(player: &Player, sort: Sort, run: &Run, failure: &Failure) {
     match failure {
         Failure::NotStarted(error) => println!("  {bench} cannot be started: {error}"),
         Failure::Hung => println!("  {bench} took longer than {} s and was killed", LONGEST.as_secs()),
-        Failure::Crashed(status) => println!("  {bench} crashed or failed: {status}"),
+        Failure::Status { expected, came } => println!("  {bench} ended with {came}, and not with {expected}"),
         Failure::Differs(difference, status) => differs(&format!("the answers ({status})"), difference),
+        Failure::Words { line, fact: Fact { text, is_said }, came } => {
+            let must = if *is_said { "must" } else { "must not" };
+            println!("  the words of line {line} {must} say {text:?}, came {came:?}");
+        }
         Failure::Told { expected, came } => {
             println!("  standard error differs: expected {expected:?} (the reason's words are free), came {came:?}");
         }
@@ -199,7 +231,9 @@ impl Player {
         let transcript = run.transcript.clone();
         thread::spawn(move || feed(seed, input, &transcript));
         let told = collect(told, EXTRA_OUTPUT);
-        let output = collect(output, expected.output.len() as u64 + EXTRA_OUTPUT);
+        let trace = run.asked().trace;
+        let longest = expected.output.len() as u64 * if trace { LONGER_IN_WORDS } else { 1 };
+        let output = collect(output, longest + EXTRA_OUTPUT);
         let (came, told) = (by(deadline, &output), by(deadline, &told));
         let status = came.is_some().then(|| wait(&mut child, deadline)).flatten();
         let (Some(came), Some(told), Some(status)) = (came, told, status) else {
@@ -208,7 +242,10 @@ impl Player {
             let _ = child.wait();
             return Err(Failure::Hung);
         };
-        judge(&expected.output, &came, status)?;
+        judge(expected, &came, trace, status)?;
+        judge_words(&expected.facts, &String::from_utf8_lossy(&came))?;
+        let differs = Failure::Status { expected: expected.told.status(), came: status };
+        (status.code() == Some(expected.told.status().into())).then_some(()).ok_or(differs)?;
         judge_told(&expected.told, &String::from_utf8_lossy(&told))?;
         judge_files(&expected.files, &files_in(&folder).map_err(Failure::NotStarted)?)
     }
@@ -284,37 +321,57 @@ fn wait(child: &mut Child, deadline: Instant) -> Option<ExitStatus> {
     }
 }
 
-/// Compares the answers, then looks at the status. Which status a bench has after a run that ended early the paper
-/// leaves open, so that any but a crash's will do there.
-fn judge(expected: &[u8], came: &[u8], status: ExitStatus) -> Result<(), Failure> {
-    let expected = String::from_utf8_lossy(expected);
+/// Compares the answers and the pages. Of a trace the first digits of each answer count. Where nothing is played, the
+/// one answer may stand without words: standard error has them.
+fn judge(Outcome { output, told, .. }: &Outcome, came: &[u8], trace: bool, status: ExitStatus) -> Result<(), Failure> {
+    let expected = String::from_utf8_lossy(output);
     let came = String::from_utf8_lossy(came);
+    let stands_alone = expected == came && told.is_before_play();
+    let came = if trace && !stands_alone { came.split_inclusive('\n').map(without_words).collect() } else { came };
     if expected != came {
         return Err(Failure::Differs(difference(&expected, &came), status));
-    }
-    let crashed = status.code().is_none_or(|code| code >= PANIC_STATUS);
-    let ended_early = expected.lines().last().is_some_and(|line| line.starts_with(RUN_ENDED));
-    if crashed || !(status.success() || ended_early) {
-        return Err(Failure::Crashed(status));
     }
     Ok(())
 }
 
-/// Compares standard error: nothing, or a line with the file, the line at fault and the number. What it says of a chip
-/// that is not there is left open.
+/// Looks for what the model knows in the words of a trace.
+fn judge_words(facts: &[Vec<Fact>], came: &str) -> Result<(), Failure> {
+    for (number, (facts, line)) in facts.iter().zip(came.lines()).enumerate() {
+        if let Some(fact) = facts.iter().find(|fact| line.contains(&fact.text) != fact.is_said) {
+            return Err(Failure::Words { line: number + 1, fact: fact.clone(), came: line.to_string() });
+        }
+    }
+    Ok(())
+}
+
+/// A line of a trace without its words, which an answer must have; another line as it is.
+fn without_words(line: &str) -> String {
+    let is_digit = |byte| crate::transcript::digit(byte).is_some();
+    let digits = line.bytes().take_while(|byte| is_digit(*byte)).count();
+    if digits != ANSWER_DIGITS {
+        return line.to_string();
+    }
+    let (answer, rest) = line.split_at(ANSWER_DIGITS);
+    let words = rest.strip_prefix(BEFORE_WORDS).and_then(|words| words.strip_suffix('\n')).unwrap_or_default();
+    if words.is_empty() || words.trim() != words {
+        return format!("{answer} without words: {rest:?}\n");
+    }
+    format!("{answer}\n")
+}
+
+/// Compares standard error: nothing, or one line with what is at fault, the line of it, and the number. What is wrong
+/// with a line of the transcript is told in the words that were agreed (issue 23); else the reason's words are free.
 fn judge_told(expected: &Told, came: &str) -> Result<(), Failure> {
+    let reason = |begins: &str| {
+        let ends = expected.number().map(|number| format!(" ({number})\n"))?;
+        came.strip_prefix(begins)?.strip_suffix(&ends).filter(|reason| !reason.is_empty() && !reason.contains('\n'))
+    };
     let same = match expected {
         Told::Nothing => came.is_empty(),
-        Told::NoChip { .. } => true,
-        Told::TooLong { .. } => came == format!("{expected}\n"),
-        Told::Refused { file, fault, .. } => {
-            let begins = format!("bench: {file}: line {}: ", fault.line);
-            let ends = format!(" ({})\n", fault.reason as u8);
-            came.len() >= begins.len() + ends.len()
-                && came.starts_with(&begins)
-                && came.ends_with(&ends)
-                && came.matches('\n').count() == 1
-        }
+        Told::TooLong { .. } | Told::Malformed(_) => came == format!("{expected}\n"),
+        Told::Board(_) => reason("bench: board: ").is_some(),
+        Told::NotThere { .. } => reason("bench: ").is_some(),
+        Told::Refused { file, fault, .. } => reason(&format!("bench: {file}: line {}: ", fault.line)).is_some(),
     };
     let differs = || Failure::Told { expected: expected.to_string(), came: came.to_string() };
     same.then_some(()).ok_or_else(differs)

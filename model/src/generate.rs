@@ -2,6 +2,7 @@
 
 use crate::board::{self, Place, Refusal, MOST_CHIPS};
 use crate::bus::Event;
+use crate::looks;
 use crate::part::{Part, AT24CM01_NUMBER, CS32_NUMBER, CSM01_NUMBER, LINE_ADDRESSES};
 use crate::program::Folder;
 use crate::rng::Rng;
@@ -28,6 +29,7 @@ const FEWEST_TO_CLASH: usize = 2;
 const HEXADECIMAL: usize = 16;
 const DIGITS: &[u8] = b"0123456789ABCDEF";
 const LOWER_CASE: &[u8] = b"abcdef";
+const BLANKS: &[u8] = b" \t";
 /// Bytes next to the digits, and others that a reader may take for something else.
 const ALMOST_DIGITS: &[u8] = b"/:@G`afg Xx\t\0\r\xFF";
 const ALMOST_DIGIT_PERCENT: usize = 70;
@@ -60,7 +62,9 @@ pub fn run(seed: u64) -> Run {
     } else if rng.percent(MALFORMED_PERCENT) {
         spoil(&mut rng, &mut lines);
     }
-    Run { words, files: Folder::new(), transcript: lines.concat() }
+    let mut run = Run { words, files: Folder::new(), transcript: lines.concat() };
+    looks::add(&mut run, seed);
+    run
 }
 
 /// The lines of events.
@@ -106,6 +110,7 @@ fn place(rng: &mut Rng, parts: &[u8], wild: bool) -> Place {
 enum Fault {
     WrongByte,
     LowerCase,
+    Blank,
     Short,
     Long,
     CarriageReturn,
@@ -114,13 +119,14 @@ enum Fault {
     NoLineEnd,
 }
 
-const FAULTS: [(usize, Fault); 8] = [
+const FAULTS: [(usize, Fault); 9] = [
     (8, Fault::WrongByte),
     (2, Fault::LowerCase),
+    (2, Fault::Blank),
     (2, Fault::Short),
     (2, Fault::Long),
     (2, Fault::CarriageReturn),
-    (1, Fault::Empty),
+    (2, Fault::Empty),
     (3, Fault::ExtraByte),
     (4, Fault::NoLineEnd),
 ];
@@ -138,6 +144,7 @@ pub fn spoil(rng: &mut Rng, lines: &mut Vec<Vec<u8>>) {
     match fault {
         Fault::WrongByte => line[rng.below(line_end + 1)] = no_digit(rng),
         Fault::LowerCase => line[place] = rng.pick(LOWER_CASE),
+        Fault::Blank => line[place] = rng.pick(BLANKS),
         Fault::Short => drop(line.drain(place..line_end)),
         Fault::Long => line.insert(place, rng.pick(DIGITS)),
         Fault::CarriageReturn => line.insert(line_end, b'\r'),

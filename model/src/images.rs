@@ -5,11 +5,14 @@ use crate::board::{self, Place};
 use crate::bus::{Event, ACK, NACK, READ, STOP};
 use crate::chip::ARRAY_TYPE;
 use crate::generate::{board_words, event_lines, spoil, Run};
+use crate::looks;
 use crate::part::{Part, CS32, LINE_ADDRESSES};
 use crate::program::{self, Folder, Told};
 use crate::rng::Rng;
+use crate::said::{self, Fact};
 use crate::script;
 use crate::texts::{self, Text};
+use crate::transcript;
 use crate::turns::{address, event, send, start};
 use crate::words::{load_word, save_word};
 
@@ -54,6 +57,8 @@ pub struct Outcome {
     pub output: Vec<u8>,
     pub told: Told,
     pub files: Folder,
+    /// What the words behind each answer must say, where the run is traced.
+    pub facts: Vec<Vec<Fact>>,
 }
 
 /// Plays a run to the model.
@@ -61,7 +66,19 @@ pub fn outcome(run: &Run) -> Outcome {
     let mut output = Vec::new();
     let mut files = run.files.clone();
     let told = program::play(&run.asked(), &mut files, &run.transcript[..], &mut output);
-    Outcome { output, told: told.expect("files that are there, and memory that takes every answer"), files }
+    let told = told.expect("files that are there, and memory that takes every answer");
+    Outcome { output, told, files, facts: facts(run) }
+}
+
+/// What the words behind each answer must say; none where the run is not traced, or nothing is played.
+fn facts(run: &Run) -> Vec<Vec<Fact>> {
+    let asked = run.asked();
+    match program::ready(&asked, &run.files) {
+        Ok(Ok(mut bus)) if asked.trace => {
+            transcript::events(&run.transcript).map(|event| said::step(&mut bus, event)).collect()
+        }
+        _ => Vec::new(),
+    }
 }
 
 /// A run in the making.
@@ -96,7 +113,9 @@ pub fn run(seed: u64) -> ImageRun {
     words.extend(maker.loads.iter().map(|(chip, file)| load_word(*chip, file)));
     words.extend(saves.iter().map(|(chip, file)| save_word(*chip, file)));
     let transcript = maker.transcript(&board);
-    ImageRun { run: Run { words, files: maker.files, transcript }, texts: maker.texts }
+    let mut run = Run { words, files: maker.files, transcript };
+    looks::add(&mut run, seed ^ IMAGE_SEED);
+    ImageRun { run, texts: maker.texts }
 }
 
 impl Maker {

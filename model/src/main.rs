@@ -9,9 +9,12 @@ mod compare;
 mod generate;
 mod hex;
 mod images;
+mod looks;
+mod pages;
 mod part;
 mod program;
 mod rng;
+mod said;
 mod script;
 mod starts;
 mod texts;
@@ -23,7 +26,7 @@ use std::io::{self, BufReader, BufWriter, Write};
 use std::path::Path;
 use std::process::ExitCode;
 
-const USAGE: &str = "usage: model play [PART:STRAP ..] [load:K:FILE ..] [save:K:FILE ..]
+const USAGE: &str = "usage: model play [PART:STRAP ..] [load:K:FILE ..] [save:K:FILE ..] [page:K:STORE:N ..]
      | generate SEED | images SEED FOLDER | compare BENCH RUNS [FIRST_SEED] | census RUNS";
 const BAD_ARGUMENTS: u8 = 2;
 
@@ -54,10 +57,10 @@ fn task(words: &[String]) -> Option<Task> {
     })
 }
 
-/// Prints a run: the board's words on standard error, the transcript on standard output.
+/// Prints a run: the words on standard error, the transcript on standard output.
 fn generate(seed: u64) -> io::Result<()> {
     let run = generate::run(seed);
-    eprintln!("# board: {}", if run.words.is_empty() { "no words".to_string() } else { run.words.join(" ") });
+    eprintln!("# words: {}", if run.words.is_empty() { "none".to_string() } else { run.words.join(" ") });
     io::stdout().write_all(&run.transcript)
 }
 
@@ -74,15 +77,15 @@ fn put_images(seed: u64, folder: &str) -> io::Result<()> {
     std::fs::write(folder.join("run"), format!("exec \"$@\" {} <transcript\n", words.join(" ")))
 }
 
-/// Answers standard input on standard output, with the images that the words ask for.
-fn play(words: &words::Words) -> io::Result<()> {
+/// Answers standard input on standard output, with the images and pages that the words ask for; the status to end with.
+fn play(words: &words::Words) -> io::Result<u8> {
     let mut output = BufWriter::new(io::stdout().lock());
     let told = program::play(words, &mut program::Disk, BufReader::new(io::stdin().lock()), &mut output)?;
     output.flush()?;
     if told != program::Told::Nothing {
         eprintln!("{told}");
     }
-    Ok(())
+    Ok(told.status())
 }
 
 fn main() -> ExitCode {
@@ -92,9 +95,9 @@ fn main() -> ExitCode {
             eprintln!("{USAGE}");
             return ExitCode::from(BAD_ARGUMENTS);
         }
-        Some(Task::Play(words)) => play(&words),
-        Some(Task::Generate(seed)) => generate(seed),
-        Some(Task::Images { seed, folder }) => put_images(seed, &folder),
+        Some(Task::Play(words)) => play(&words).map(ExitCode::from),
+        Some(Task::Generate(seed)) => generate(seed).map(|()| ExitCode::SUCCESS),
+        Some(Task::Images { seed, folder }) => put_images(seed, &folder).map(|()| ExitCode::SUCCESS),
         Some(Task::Compare { bench, runs, first_seed }) => {
             let (passed, failed) = compare::compare(&bench, runs, first_seed);
             println!("{passed} passed, {failed} failed");
@@ -102,11 +105,11 @@ fn main() -> ExitCode {
         }
         Some(Task::Census(runs)) => {
             census::census(runs);
-            Ok(())
+            Ok(ExitCode::SUCCESS)
         }
     };
     match done {
-        Ok(()) => ExitCode::SUCCESS,
+        Ok(status) => status,
         Err(error) => {
             eprintln!("model: {error}");
             ExitCode::FAILURE

@@ -1,6 +1,7 @@
 //! The transcript's two formats and the bench program (paper, "The transcript").
 
 use crate::bus::{Answer, Bus, Event};
+use std::fmt;
 use std::io::{self, Read, Write};
 
 /// Digits of an event, and the length of its line with the LF.
@@ -8,7 +9,7 @@ const EVENT_DIGITS: usize = 4;
 const LINE_BYTES: usize = EVENT_DIGITS + 1;
 /// Kind and value of the answer that ends a run, and the status of a malformed line (refusal 9).
 const NO_EVENT: Event = Event { kind: 0xFF, value: 0xFF };
-const MALFORMED: u8 = 9;
+pub const MALFORMED: u8 = 9;
 const DECIMAL: u8 = 10;
 const HEXADECIMAL: u8 = 16;
 
@@ -38,11 +39,61 @@ fn answer_line(event: Event, answer: Answer) -> String {
     format!("{:02X}{:02X}{:02X}{:02X}\n", event.kind, event.value, answer.status, answer.reply)
 }
 
+/// What is wrong with a line (issue 23).
+#[derive(Debug, Clone, Copy, PartialEq, Eq)]
+pub enum Flaw {
+    Empty,
+    Short,
+    LowerCase,
+    CarriageReturn,
+    Blank,
+    NoDigit,
+    Long,
+    NoLineEnd,
+}
+
+impl fmt::Display for Flaw {
+    fn fmt(&self, f: &mut fmt::Formatter) -> fmt::Result {
+        f.write_str(match self {
+            Flaw::Empty => "an empty line",
+            Flaw::Short => "too short",
+            Flaw::LowerCase => "a lower-case digit",
+            Flaw::CarriageReturn => "a CR",
+            Flaw::Blank => "a blank",
+            Flaw::NoDigit => "no digit 0-9 A-F",
+            Flaw::Long => "too long",
+            Flaw::NoLineEnd => "no LF at the end",
+        })
+    }
+}
+
+/// A malformed line, 1 for the first, and what is wrong with it.
+#[derive(Debug, Clone, Copy, PartialEq, Eq)]
+pub struct Malformed {
+    pub line: usize,
+    pub flaw: Flaw,
+}
+
+/// What is wrong with the bytes of a line that has no event: the first wrong byte decides.
+fn flaw(line: &[u8]) -> Flaw {
+    let digits = line.iter().take(EVENT_DIGITS).take_while(|byte| digit(**byte).is_some()).count();
+    match line.get(digits) {
+        None => Flaw::NoLineEnd,
+        Some(b'\r') => Flaw::CarriageReturn,
+        Some(_) if digits == EVENT_DIGITS => Flaw::Long,
+        Some(b'\n') if digits == 0 => Flaw::Empty,
+        Some(b'\n') => Flaw::Short,
+        Some(b'a'..=b'f') => Flaw::LowerCase,
+        Some(b' ' | b'\t') => Flaw::Blank,
+        Some(_) => Flaw::NoDigit,
+    }
+}
+
 /// What is read next: an event, the end, or something malformed. A wrong byte shows in the five that a right
 /// line has, since no right line is longer or shorter.
 enum Next {
     Event(Event),
-    Malformed,
+    Malformed(Flaw),
     End,
 }
 
@@ -52,7 +103,7 @@ fn next(input: &mut impl Read) -> io::Result<Next> {
     Ok(match parse(&line) {
         Some(event) => Next::Event(event),
         None if line.is_empty() => Next::End,
-        None => Next::Malformed,
+        None => Next::Malformed(flaw(&line)),
     })
 }
 
@@ -62,13 +113,18 @@ pub fn closing(status: u8) -> String {
 }
 
 /// Answers a transcript, until it ends or a line is malformed.
-pub fn answer(bus: &mut Bus, mut input: impl Read, mut output: impl Write) -> io::Result<()> {
+pub fn answer(bus: &mut Bus, mut input: impl Read, mut output: impl Write) -> io::Result<Option<Malformed>> {
+    let mut line = 1;
     loop {
         match next(&mut input)? {
             Next::Event(event) => output.write_all(answer_line(event, bus.step(event)).as_bytes())?,
-            Next::Malformed => return output.write_all(closing(MALFORMED).as_bytes()),
-            Next::End => return Ok(()),
+            Next::Malformed(flaw) => {
+                output.write_all(closing(MALFORMED).as_bytes())?;
+                return Ok(Some(Malformed { line, flaw }));
+            }
+            Next::End => return Ok(None),
         }
+        line += 1;
     }
 }
 
@@ -79,8 +135,8 @@ pub fn events(transcript: &[u8]) -> impl Iterator<Item = Event> + '_ {
 
 #[cfg(test)]
 mod tests {
-    use super::EVENT_DIGITS;
-    use crate::program::{self, Folder};
+    use super::{Flaw, Malformed, EVENT_DIGITS};
+    use crate::program::{self, Folder, Told};
     use crate::words;
 
     /// Plays a transcript on the board with these words; the answers without their line ends.
@@ -126,6 +182,36 @@ mod tests {
         }
         assert_eq!(answers("", ""), Vec::<String>::new());
         assert_eq!(answers("1:1 2:3", ""), ["FFFF0400"]);
+    }
+
+    #[test]
+    fn the_first_wrong_byte_decides() {
+        for (bad, flaw) in [
+            ("\n", Flaw::Empty),
+            ("010\n", Flaw::Short),
+            ("01\r\n", Flaw::CarriageReturn),
+            ("0100\r\n", Flaw::CarriageReturn),
+            ("\r\n", Flaw::CarriageReturn),
+            ("03a2\n", Flaw::LowerCase),
+            ("03f \n", Flaw::LowerCase),
+            ("03 f\n", Flaw::Blank),
+            ("\t0100\n", Flaw::Blank),
+            ("01 0\n", Flaw::Blank),
+            ("03g2\n", Flaw::NoDigit),
+            ("#\n", Flaw::NoDigit),
+            ("03\0", Flaw::NoDigit),
+            ("03A2a", Flaw::Long),
+            ("03A2 \n", Flaw::Long),
+            ("03A200\n", Flaw::Long),
+            ("0", Flaw::NoLineEnd),
+            ("03A2", Flaw::NoLineEnd),
+        ] {
+            let words = words::parse(&[]).expect("words");
+            let transcript = format!("0100\n0200\n{bad}");
+            let told = program::play(&words, &mut Folder::new(), transcript.as_bytes(), &mut Vec::new());
+            let expected = Told::Malformed(Malformed { line: 3, flaw });
+            assert_eq!(told.expect("no I/O here"), expected, "{bad:?}");
+        }
     }
 
     #[test]

@@ -1,12 +1,17 @@
-//! The words of the command line: PART:STRAP for a chip, load:K:FILE and save:K:FILE for a chip's image.
+//! The words of the command line: PART:STRAP for a chip, load:K:FILE and save:K:FILE for a chip's image,
+//! page:K:STORE:N for a page of a chip's memory, trace for answers with words behind them.
 
 use crate::board::{self, Place};
+use crate::pages::{Page, PAGE};
 
 /// What the words ask for.
 pub struct Words {
     pub board: Vec<Place>,
     pub loads: Vec<Image>,
     pub saves: Vec<Image>,
+    pub pages: Vec<Page>,
+    /// What the words behind the answers are is left open; the model writes none.
+    pub trace: bool,
 }
 
 /// A chip, which need not be there, and a file.
@@ -17,6 +22,7 @@ pub struct Image {
 
 const LOAD: &str = "load:";
 const SAVE: &str = "save:";
+pub const TRACE: &str = "trace";
 
 /// The words of an image.
 pub fn load_word(chip: usize, file: &str) -> String {
@@ -40,16 +46,22 @@ pub fn parse(words: &[String]) -> Option<Words> {
     let mut places = Vec::new();
     let mut loads = Vec::new();
     let mut saves = Vec::new();
+    let mut pages = Vec::new();
+    let mut trace = false;
     for word in words {
         if let Some(rest) = word.strip_prefix(LOAD) {
             loads.push(image(rest)?);
         } else if let Some(rest) = word.strip_prefix(SAVE) {
             saves.push(image(rest)?);
+        } else if let Some(rest) = word.strip_prefix(PAGE) {
+            pages.push(Page::parse(word, rest)?);
+        } else if word == TRACE {
+            trace = true;
         } else {
             places.push(word.clone());
         }
     }
-    Some(Words { board: board::parse(&places)?, loads, saves })
+    Some(Words { board: board::parse(&places)?, loads, saves, pages, trace })
 }
 
 #[cfg(test)]
@@ -59,7 +71,7 @@ mod tests {
     #[test]
     fn images() {
         let words = ["1:0", "load:0:a:b c", "save:F:x"].map(String::from);
-        let Words { board, loads, saves } = parse(&words).expect("words");
+        let Words { board, loads, saves, .. } = parse(&words).expect("words");
         assert_eq!((board.len(), loads.len(), saves.len()), (1, 1, 1));
         assert_eq!((loads[0].chip, loads[0].file.as_str()), (0, "a:b c"));
         assert_eq!((saves[0].chip, saves[0].file.as_str()), (15, "x"));

@@ -1,1 +1,4 @@
 pub mod Asking
+pub mod Page
+pub mod Trace
+pub mod Status

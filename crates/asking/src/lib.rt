@@ -1,4 +1,9 @@
-// Files asked for: a word that asks for one is load:K:FILE or save:K:FILE, where K is the chip's digit (request E1).
+// What the words on the command line ask for. A word that asks for a file is load:K:FILE or save:K:FILE, where K is the chip's digit
+// (request E1).
+pub mod page;
+pub mod status;
+pub mod trace;
+
 use transcript::digit::DIGITS;
 use transcript::digit::digit_of;
 ghost use mathlib.Core.Path.{_≡_};

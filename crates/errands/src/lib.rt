@@ -1,12 +1,17 @@
-// The errands on the command line: files to be loaded before a run, and to be saved after it (request E1). The words are gone through
-// once for each step, so that there may be any number of them.
+// The errands on the command line: files to be loaded before a run, pages to be shown and files to be saved after it (request E1). The
+// words are gone through once for each step, so that there may be any number of them.
+mod dump;
 pub mod telling;
 
 use asking::Asked;
 use asking::PATH;
 use asking::asked_by;
+use asking::page::PageAsked;
+use asking::page::page_asked;
 use base::number::least;
+use board::PLACES;
 use bus::Bus;
+use dump::show;
 use files::Content;
 use files::Outcome;
 use files::prepare;
@@ -15,9 +20,15 @@ use files::write_whole;
 use image::loading::load;
 use image::saving::save;
 use libc::PATH_MAX;
+use lineup::places_of;
+use pages::page;
+use pages::page_verdict;
 use refusal::Refusal;
 use refusal::Verdict;
+use status::Status;
+use status::greatest;
 use telling::tell_failure;
+use telling::tell_no_page;
 use telling::tell_refusal;
 use telling::tell_too_long;
 ghost use Prim.Native.Nat.{_≤_};
@@ -33,13 +44,25 @@ const OWN: usize = 1;
 // The most bytes of a file.
 const TEXT: usize = 2_097_152;
 
-// What is done in turn. Before the run each chip must be there, files are loaded, and those to be saved must take writing; after it they
-// are saved.
+// What is done in turn. Before the run each chip and page must be there, files are loaded, and those to be saved must take writing; after
+// it pages are shown, and files saved.
 enum Step {
     Check,
     Load,
     Prepare,
+    Show,
     Save,
+}
+
+// Whether what cannot be done leaves the rest undone: before the run it does, after it the others are shown and saved.
+fn is_before(step: Step) -> bool {
+    match step {
+        Step::Check => true,
+        Step::Load => true,
+        Step::Prepare => true,
+        Step::Show => false,
+        Step::Save => false,
+    }
 }
 
 // How the errands ended: all done, one refused, or a file not to be had. What is not done is told on standard error.
@@ -61,6 +84,14 @@ pub fn blank_word() -> [u8; WORD]
     ensures { λ r. ⌜ 4103 ≡ length r ⌝ }
 {
     [0u8; WORD]
+}
+
+pub fn status_of(ending: Ending) -> Status {
+    match ending {
+        Ending::Done => Status::Answered,
+        Ending::Refused(_) => Status::Refused,
+        Ending::Failed => Status::Broken,
+    }
 }
 
 fn is_done(ending: Ending) -> bool {
@@ -120,20 +151,33 @@ fn prepare_file(path: &[u8]) -> Ending {
 }
 
 // The text stands at the start of a buffer.
-fn write_file(path: &[u8], buffer: &[u8], written: usize) {
+fn write_file(path: &[u8], buffer: &[u8], written: usize) -> Ending {
     let end = least(written, buffer.len());
     match write_whole(path, &buffer[0..end]) {
-        Outcome::Done => {}
-        Outcome::Failed(_) => tell_failure(path),
+        Outcome::Done => Ending::Done,
+        Outcome::Failed(_) => {
+            tell_failure(path);
+            Ending::Failed
+        }
     }
 }
 
-fn save_file(bus: Bus, array: &[u8], security: &[u8], chip: usize, path: &[u8], text: &mut [u8]) {
+fn save_file(
+    bus: Bus,
+    array: &[u8],
+    security: &[u8],
+    chip: usize,
+    path: &[u8],
+    text: &mut [u8],
+) -> Ending {
     let saved = save(bus, array, security, chip, text);
     let verdict = saved.verdict;
     match verdict {
         Verdict::Passed => write_file(path, text, saved.written),
-        Verdict::Refused(refusal) => tell_refusal(path, 0, refusal),
+        Verdict::Refused(refusal) => {
+            tell_refusal(path, 0, refusal);
+            Ending::Refused(refusal)
+        }
     }
 }
 
@@ -153,11 +197,12 @@ fn load_step(
         Step::Check => ending_of(word, 0, bus.chip_verdict(array, security, chip)),
         Step::Load => load_file(bus, array, security, chip, &word[PATH..], text),
         Step::Prepare => Ending::Done,
+        Step::Show => Ending::Done,
         Step::Save => Ending::Done,
     }
 }
 
-// The step of a word that asks to save. What cannot be saved is told, and the others are saved.
+// The step of a word that asks to save.
 fn save_step(
     step: Step,
     bus: Bus,
@@ -173,10 +218,82 @@ fn save_step(
         Step::Check => ending_of(word, 0, bus.chip_verdict(array, security, chip)),
         Step::Load => Ending::Done,
         Step::Prepare => prepare_file(&word[PATH..]),
-        Step::Save => {
-            save_file(bus, array, security, chip, &word[PATH..], text);
-            Ending::Done
+        Step::Show => Ending::Done,
+        Step::Save => save_file(bus, array, security, chip, &word[PATH..], text),
+    }
+}
+
+// Chip, store and page must be there.
+fn check_page(verdict: Verdict, word: &[u8]) -> Ending {
+    match verdict {
+        Verdict::Passed => Ending::Done,
+        Verdict::Refused(refusal) => {
+            tell_no_page(word, refusal);
+            Ending::Refused(refusal)
         }
+    }
+}
+
+// The page of a chip that was seen to be there.
+fn show_page(bus: Bus, chip: usize, store: u8, number: usize, word: &[u8], shown: &[u8]) -> Ending {
+    if PLACES <= chip {
+        return Ending::Done;
+    }
+    let chips = bus.chips;
+    let places = places_of(chips);
+    if show(word, chip as u8, places[chip], store, number, shown) {
+        return Ending::Done;
+    }
+    tell_failure(b"standard output");
+    Ending::Failed
+}
+
+// The step of a word that asks for a page.
+fn page_step<'a>(
+    step: Step,
+    bus: Bus,
+    array: &'a [u8],
+    security: &'a [u8],
+    chip: usize,
+    store: u8,
+    number: usize,
+    word: &[u8],
+) -> Ending {
+    match step {
+        Step::Check => check_page(
+            page_verdict(bus, array, security, chip, store, number),
+            word,
+        ),
+        Step::Load => Ending::Done,
+        Step::Prepare => Ending::Done,
+        Step::Show => {
+            let shown = page(bus, array, security, chip, store, number);
+            show_page(bus, chip, store, number, word, shown)
+        }
+        Step::Save => Ending::Done,
+    }
+}
+
+// The step of a word that asks for no file.
+fn other_step<'a>(
+    step: Step,
+    bus: Bus,
+    array: &'a [u8],
+    security: &'a [u8],
+    word: &[u8],
+) -> Ending {
+    match page_asked(word) {
+        PageAsked::Page(chip, store, number) => page_step(
+            step,
+            bus,
+            array,
+            security,
+            chip,
+            store,
+            number,
+            word,
+        ),
+        PageAsked::Unknown => Ending::Done,
     }
 }
 
@@ -195,20 +312,24 @@ fn step_at(
     match asked_by(word) {
         Asked::Load(chip) => load_step(step, bus, array, security, chip, word, text),
         Asked::Save(chip) => save_step(step, bus, array, security, chip, word, text),
-        Asked::Unknown => Ending::Done,
+        Asked::Unknown => other_step(step, bus, array, security, word),
     }
 }
 
-// One step of all words, in their order, up to the first that is not done.
+// One step of all words, in their order. Before the run the first that is not done ends it.
 fn step_all(step: Step, bus: Bus, array: &mut [u8], security: &[u8], text: &mut [u8]) -> Ending {
     let count = os::arg_count();
+    let mut ending = Ending::Done;
     for i in OWN..count {
-        let ending = step_at(step, i, bus, array, security, text);
-        if !is_done(ending) {
-            return ending;
+        let next = step_at(step, i, bus, array, security, text);
+        if !is_done(next) {
+            if is_before(step) {
+                return next;
+            }
+            ending = next;
         }
     }
-    Ending::Done
+    ending
 }
 
 // Before a run: nothing is to be played unless all is done.
@@ -225,6 +346,8 @@ pub fn begin(bus: Bus, array: &mut [u8], security: &[u8], text: &mut [u8]) -> En
 }
 
 // After it. The state is asked for its board alone, which no event changes.
-pub fn finish(bus: Bus, array: &mut [u8], security: &[u8], text: &mut [u8]) {
-    step_all(Step::Save, bus, array, security, text);
+pub fn finish(bus: Bus, array: &mut [u8], security: &[u8], text: &mut [u8]) -> Status {
+    let shown = step_all(Step::Show, bus, array, security, text);
+    let saved = step_all(Step::Save, bus, array, security, text);
+    greatest(status_of(shown), status_of(saved))
 }

@@ -1,26 +1,35 @@
-// What goes wrong with a file is told on standard error.
+// What goes wrong is told on standard error.
 use libc::STDERR_FILENO;
 use refusal::Refusal;
 use refusal::number_of;
+use stream::write_on;
 
-fn say(text: &[u8]) {
-    io::write_all(STDERR_FILENO, text);
+pub fn say(text: &[u8]) {
+    write_on(STDERR_FILENO, text);
 }
 
-fn say_number(number: u64) {
-    io::print_decimal(STDERR_FILENO, number);
+// The most digits of a number.
+const MOST_DIGITS: usize = 20;
+
+pub fn say_number(number: u64) {
+    let mut digits = [0u8; MOST_DIGITS];
+    let n = io::decimal(number, &mut digits);
+    say(&digits[..n]);
 }
 
 // The program's name, and what it speaks of.
-fn say_name(name: &[u8]) {
+pub fn say_name(name: &[u8]) {
     say(b"bench: ");
     say(name);
     say(b": ");
 }
 
-// A refusal in words, where it is one of a file.
+// A refusal in words, where it is one of a board or a file.
 fn say_reason(refusal: Refusal) {
     match refusal {
+        Refusal::UnknownPart => say(b"a part other than 1, 2, 3"),
+        Refusal::StrapOutside => say(b"a strap outside its part's range"),
+        Refusal::SharedAddress => say(b"two chips match one address byte"),
         Refusal::BadRecord => say(b"bad digit or length"),
         Refusal::WrongSum => say(b"wrong checksum"),
         Refusal::UnknownType => say(b"unknown record type"),
@@ -47,6 +56,13 @@ pub fn tell_refusal(name: &[u8], line: usize, refusal: Refusal) {
         say(b": ");
     }
     say_refusal(refusal);
+}
+
+pub fn tell_no_page(word: &[u8], refusal: Refusal) {
+    say_name(word);
+    say(b"there is no such chip, store or page (");
+    say_number(number_of(refusal) as u64);
+    say(b")\n");
 }
 
 pub fn tell_too_long(name: &[u8], most: usize) {

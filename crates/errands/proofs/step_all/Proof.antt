@@ -7,10 +7,10 @@ use Rattle.errands.proofs.step_all.Statement.{statement}
 use Rattle.errands.proofs.step_all.Tie as tie
 
 abbrev Inv-loop : tie.InvT-loop
-Inv-loop step bus array₀ security text₀ count i₀ array text i = (length array ≡ length array₀) × (length text ≡ length text₀)
+Inv-loop step bus array₀ security text₀ count ending₀ i₀ array text ending i = (length array ≡ length array₀) × (length text ≡ length text₀)
 
 abbrev μ-loop : tie.MeasureT-loop
-μ-loop step bus array₀ security text₀ count i₀ array text i = count - i
+μ-loop step bus array₀ security text₀ count ending₀ i₀ array text ending i = count - i
 
 arg-count-requires : tie.Need-arg-count-requires Inv-loop μ-loop
 arg-count-requires c κs = search needs
@@ -23,6 +23,9 @@ step-at-requires c κs = search needs
 
 is-done-requires : tie.Need-is-done-requires Inv-loop μ-loop
 is-done-requires c κs = search needs
+
+is-before-requires : tie.Need-is-before-requires Inv-loop μ-loop
+is-before-requires c κs = search needs
 
 same-length : tie.Need-same-length Inv-loop μ-loop
 same-length c = search needs
@@ -61,6 +64,7 @@ step-all-spec =
     loop-holds
     step-at-requires
     is-done-requires
+    is-before-requires
     same-length
     same-length-2
     returns

@@ -43,6 +43,9 @@ save-step-requires c κs =
 enum-told : tie.Need-enum-told
 enum-told c = search needs
 
+other-step-requires : tie.Need-other-step-requires
+other-step-requires c κs = search needs
+
 same-length : tie.Need-same-length
 same-length c = search needs
 
@@ -60,6 +63,9 @@ same-length-4 c = search needs
 
 returns-2 : tie.Need-returns-2
 returns-2 c = search needs
+
+same-length-5 : tie.Need-same-length-5
+same-length-5 c = search needs
 
 returns-3 : tie.Need-returns-3
 returns-3 c = search needs
@@ -79,10 +85,12 @@ step-at-spec =
     enum-known-chip-2
     save-step-requires
     enum-told
+    other-step-requires
     same-length
     same-length-2
     returns
     same-length-3
     same-length-4
     returns-2
+    same-length-5
     returns-3)

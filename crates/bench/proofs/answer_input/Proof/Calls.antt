@@ -115,12 +115,12 @@ module _ {M : Type 1} (𝓤 : URA M) (H : Heap 𝓤) (A : Atoms 𝓤) (W : Given
 
   module _ (C : Calls 𝓤 H) (fm : FmC 𝓤 H (W .laws) C) where
     pub reads : (the-tape : Passed (List ℕ)) → Triple 𝓤 (C #bench·block·read-block) ReadBlock → (tape : List ℕ)
-        → ent 𝓤 (⋆ 𝓤 H A (‵ (Bytes the-tape tape) ∷ [])) (H .⇛ (C #bench·block·read-block (sliced the-tape ∷ vint w64 0 ∷ vint w64 most ∷ []) (λ w. mean 𝓤 H A (Read the-tape w))))
+        → ent 𝓤 (⋆ 𝓤 H A (‵ (Bytes the-tape tape) ∷ [])) (H .⇛ (C #bench·block·read-block (sliced the-tape ∷ vint w64 0 ∷ vint w64 most ∷ vint w64 0 ∷ []) (λ w. mean 𝓤 H A (Read the-tape w))))
     reads the-tape known tape =
         qed W (‵ (Bytes the-tape tape) ∷ []) ∵ updating ! $ lend-slice ! tt u8 (at-last the-tape.x tape) (sliced the-tape ∷ []) (λ ν δ.
         -- [the tape: its token, what is lent, what is kept]
-        at-once ! $ nothing ! $ nothing ! $ nothing ! $ owned ! u64 (Is u64) (uint-makes 𝓤 H A W w64) most _ (refl, lit< tt) $ owned ! usize (Is usize) (uint-makes 𝓤 H A W w64) 0 _ (refl, lit< tt) $
-        move ! (5 ∷ 2 ∷ []) $ group ! 2 $ move ! (5 ∷ 1 ∷ 2 ∷ 3 ∷ []) $ group ! 4 $ move ! (1 ∷ 0 ∷ []) $ join ! $ join ! $
+        at-once ! $ nothing ! $ nothing ! $ nothing ! $ owned ! u64 (Is u64) (uint-makes 𝓤 H A W w64) 0 _ (refl, lit< tt) $ owned ! u64 (Is u64) (uint-makes 𝓤 H A W w64) most _ (refl, lit< tt) $ owned ! usize (Is usize) (uint-makes 𝓤 H A W w64) 0 _ (refl, lit< tt) $
+        move ! (6 ∷ 3 ∷ []) $ group ! 2 $ move ! (6 ∷ 1 ∷ 2 ∷ 3 ∷ 4 ∷ []) $ group ! 5 $ move ! (1 ∷ 0 ∷ []) $ join ! $ join ! $
         use1 W (raw (ReadBlock .pre (to-read ν δ))) (id⊢ 𝓤 _) $ asks ! fm ReadBlock known (to-read ν δ) (λ w. updating ! $ answers ! tt read-block.ended (read-block.clauses 𝓤 H A mem run) (to-read ν δ) (λ block ws.
         move ! (3 ∷ []) $ drop ! $ move ! (1 ∷ []) $ facts ! B.the-row (Is B.the-row) (shows 𝓤 H A B.the-row) block (w ∷ []) (λ is.
         -- [the token; the last values; what is kept]
@@ -128,25 +128,26 @@ module _ {M : Type 1} (𝓤 : URA M) (H : Heap 𝓤) (A : Atoms 𝓤) (W : Given
         at-once ! $ show ! (λ (y : Block × List ℕ). mean 𝓤 H A (Reading the-tape w y)) (block, ws .0) $ check ! is $ keep ! (0 ∷ []) $ done !))))
       where
         to-read : ℕ → GName → ReadBlock .Ghost
-        to-read ν δ = (((ν ∷ [], tt), (fullShare, tt), tt, (under (at-last the-tape.x tape) δ, (0, (most, tt))), (sliced the-tape ∷ [], (vint w64 0 ∷ [], (vint w64 most ∷ [], tt)))), tt)
+        to-read ν δ = (((ν ∷ [], tt), (fullShare, tt), tt, (under (at-last the-tape.x tape) δ, (0, (most, (0, tt)))), (sliced the-tape ∷ [], (vint w64 0 ∷ [], (vint w64 most ∷ [], (vint w64 0 ∷ [], tt))))), tt)
 
-    -- the machine has what was heard as u
-    pub nexts : (the-tape the-said : Passed (List ℕ)) → Triple 𝓤 (C #bench·block·next-block) NextBlock → (block : Block) (it : Heard) (u : Val) (tape said : List ℕ) → Is-block block → Is O.the-row it (u ∷ [])
-        → ent 𝓤 (⋆ 𝓤 H A (‵ (Bytes the-tape tape) ∷ ‵ (Bytes the-said said) ∷ [])) (H .⇛ (C #bench·block·next-block (mach-block block ∷ u ∷ sliced the-tape ∷ sliced the-said ∷ []) (λ w. mean 𝓤 H A (Next the-tape the-said block said w))))
-    nexts the-tape the-said known block it u tape said is-block is-it =
+    -- the machine has what was heard as u; the bus is passed as it was before and as it is after
+    pub nexts : (the-tape the-said : Passed (List ℕ)) → Triple 𝓤 (C #bench·block·next-block) NextBlock → (block : Block) (it : Heard) (u : Val) (before after : Bus) (tape said : List ℕ) → Is-block block → Is O.the-row it (u ∷ []) → Is-bus before → Is-bus after
+        → ent 𝓤 (⋆ 𝓤 H A (‵ (Bytes the-tape tape) ∷ ‵ (Bytes the-said said) ∷ [])) (H .⇛ (C #bench·block·next-block (mach-block block ∷ u ∷ mach-bus before ∷ mach-bus after ∷ sliced the-tape ∷ sliced the-said ∷ []) (λ w. mean 𝓤 H A (Next the-tape the-said block said w))))
+    nexts the-tape the-said known block it u before after tape said is-block is-it is-before is-after =
         qed W (‵ (Bytes the-tape tape) ∷ ‵ (Bytes the-said said) ∷ []) ∵ updating ! $ lend-slice ! tt u8 (at-last the-tape.x tape) (sliced the-tape ∷ []) (λ ν₀ δ₀. move ! (3 ∷ []) $ lend-shared ! tt u8 (at-last the-said.x said) (sliced the-said ∷ []) (λ ν₁ δ₁.
         -- [the token, what is lent and what is kept: of the buffer, of the tape]
-        at-once ! $ nothing ! $ nothing ! $ nothing ! $ owned ! O.the-row (Is O.the-row) (LL.makes O.the-type O′.the-plain 𝓤 H A) it _ is-it $ owned ! B.the-row (Is B.the-row) (LL.makes B.the-type B′.the-plain 𝓤 H A) block _ is-block $
-        move ! (8 ∷ 5 ∷ 2 ∷ []) $ group ! 3 $ move ! (1 ∷ 2 ∷ 7 ∷ 5 ∷ 3 ∷ []) $ group ! 5 $ move ! (1 ∷ 0 ∷ []) $ join ! $ join ! $
+        at-once ! $ nothing ! $ nothing ! $ nothing ! $ owned ! T.the-row (Is T.the-row) (LL.makes T.the-type T′.the-plain 𝓤 H A) after _ is-after $ owned ! T.the-row (Is T.the-row) (LL.makes T.the-type T′.the-plain 𝓤 H A) before _ is-before $
+        owned ! O.the-row (Is O.the-row) (LL.makes O.the-type O′.the-plain 𝓤 H A) it _ is-it $ owned ! B.the-row (Is B.the-row) (LL.makes B.the-type B′.the-plain 𝓤 H A) block _ is-block $
+        move ! (10 ∷ 7 ∷ 4 ∷ []) $ group ! 3 $ move ! (1 ∷ 2 ∷ 3 ∷ 4 ∷ 9 ∷ 7 ∷ 5 ∷ []) $ group ! 7 $ move ! (1 ∷ 0 ∷ []) $ join ! $ join ! $
         use1 W (raw (NextBlock .pre (to-next ν₀ ν₁ δ₀ δ₁))) (id⊢ 𝓤 _) $ asks ! fm NextBlock known (to-next ν₀ ν₁ δ₀ δ₁) (λ w. updating ! $ answers ! tt next-block.ended (next-block.clauses 𝓤 H A mem run) (to-next ν₀ ν₁ δ₀ δ₁) (λ block′ ws.
         move ! (3 ∷ []) $ heard ! (block′ .more ≡ true → block′ .left < block .left) (λ less. move ! (1 ∷ []) $ facts ! B.the-row (Is B.the-row) (shows 𝓤 H A B.the-row) block′ (w ∷ []) (λ is.
         -- [the tokens; the last values; what is kept: of the buffer, of the tape]
-        use1 W (‵ (flft (ν₀ ∷ []) fullShare) ⊛ ‵ (flft (ν₁ ∷ []) fullShare) ⊛ ‵ ftrue) (id⊢ 𝓤 _) $ split3 ! $ move ! (3 ∷ []) $ fsplit ! $ drop ! $ fsplit ! $ drop ! $ fsplit ! $
-        move ! (2 ∷ 6 ∷ 0 ∷ []) $ slice-back ! tt u8 (at-last the-tape.x tape) (sliced the-tape ∷ []) (ws .1 .1 .0) $ move ! (2 ∷ 4 ∷ []) $ shared-back ! tt u8 (at-last the-said.x said) (sliced the-said ∷ []) $
-        at-once ! $ show ! (λ (y : Block × List ℕ). mean 𝓤 H A (Nexting the-tape the-said block said w y)) (block′, ws .1 .1 .0) $ check ! (is, less) $ keep ! (1 ∷ 0 ∷ []) $ done !))))))
+        use1 W (‵ (flft (ν₀ ∷ []) fullShare) ⊛ ‵ (flft (ν₁ ∷ []) fullShare) ⊛ ‵ ftrue) (id⊢ 𝓤 _) $ split3 ! $ move ! (3 ∷ []) $ fsplit ! $ drop ! $ fsplit ! $ drop ! $ fsplit ! $ drop ! $ fsplit ! $ drop ! $ fsplit ! $
+        move ! (2 ∷ 6 ∷ 0 ∷ []) $ slice-back ! tt u8 (at-last the-tape.x tape) (sliced the-tape ∷ []) (ws .1 .1 .1 .1 .0) $ move ! (2 ∷ 4 ∷ []) $ shared-back ! tt u8 (at-last the-said.x said) (sliced the-said ∷ []) $
+        at-once ! $ show ! (λ (y : Block × List ℕ). mean 𝓤 H A (Nexting the-tape the-said block said w y)) (block′, ws .1 .1 .1 .1 .0) $ check ! (is, less) $ keep ! (1 ∷ 0 ∷ []) $ done !))))))
       where
         to-next : ℕ → ℕ → GName → GName → NextBlock .Ghost
-        to-next ν₀ ν₁ δ₀ δ₁ = (((ν₀ ∷ [], (ν₁ ∷ [], tt)), (fullShare, (fullShare, tt)), tt, (block, (it, (under (at-last the-tape.x tape) δ₀, (under (at-last the-said.x said) δ₁, tt)))), (mach-block block ∷ [], (u ∷ [], (sliced the-tape ∷ [], (sliced the-said ∷ [], tt))))), tt)
+        to-next ν₀ ν₁ δ₀ δ₁ = (((ν₀ ∷ [], (ν₁ ∷ [], tt)), (fullShare, (fullShare, tt)), tt, (block, (it, (before, (after, (under (at-last the-tape.x tape) δ₀, (under (at-last the-said.x said) δ₁, tt)))))), (mach-block block ∷ [], (u ∷ [], (mach-bus before ∷ [], (mach-bus after ∷ [], (sliced the-tape ∷ [], (sliced the-said ∷ [], tt))))))), tt)
 
     -- the bus stands in the local at l
     pub hears : (the-array the-security the-tape the-said : Passed (List ℕ)) → Triple 𝓤 (C #conversation·converse) Converse → (l filled : ℕ) → Is usize filled (vint w64 filled ∷ []) → (bus : Bus) (array security tape said : List ℕ) → Is-bus bus

@@ -30,13 +30,13 @@ fn in_security(address: usize) -> String {
     format!("{address:05X} of its {}", STORES[1])
 }
 
-/// Chips by their numbers, with a verb for one and one for several; None for none of them.
-fn listed(chips: &[usize], one: &str, several: &str) -> Option<String> {
+/// Chips by their numbers, and what they are; None for none of them.
+fn listed(chips: &[usize], what: &str) -> Option<String> {
     let numbers: Vec<String> = chips.iter().map(usize::to_string).collect();
     match chips {
         [] => None,
-        [_] => Some(format!("chip {} {one}", numbers[0])),
-        _ => Some(format!("chips {} {several}", numbers.join(" "))),
+        [_] => Some(format!("chip {} {what}", numbers[0])),
+        _ => Some(format!("chips {} {what}", numbers.join(" "))),
     }
 }
 
@@ -69,23 +69,23 @@ pub fn step(bus: &mut Bus, event: Event) -> Vec<Fact> {
 
 /// Who awaits an address byte, and who is busy.
 fn of_start(bus: &Bus) -> Vec<Fact> {
-    let awaits = listed(&numbers(bus, |chip| !chip.is_busy()), "awaits an address byte", "await an address byte");
-    let busy = listed(&numbers(bus, Chip::is_busy), "is busy", "are busy");
-    vec![said(awaits.unwrap_or("no chip awaits an address byte".to_string())), busy.map_or(not_said("busy"), said)]
+    let awaits = listed(&numbers(bus, |chip| !chip.is_busy()), "awaiting an address byte");
+    let busy = listed(&numbers(bus, Chip::is_busy), "busy");
+    vec![said(awaits.unwrap_or("no chip awaiting an address byte".to_string())), busy.map_or(not_said("busy"), said)]
 }
 
 /// Who stores, and where; a chip that does is busy now.
 fn of_stop(bus: &Bus, before: &[Phase]) -> Vec<Fact> {
     let begun = numbers(bus, Chip::is_busy).into_iter().find(|chip| before[*chip] != Phase::Busy);
     let Some(chip) = begun else { return vec![not_said(", busy"), not_said(" bytes at "), not_said(" byte at ")] };
-    let mut facts = vec![said(format!("chip {chip} stores ")), said(", busy"), not_said("stores nothing")];
+    let mut facts = vec![said(format!("chip {chip} ")), said(", busy"), not_said("stores nothing")];
     match before[chip] {
         Phase::Takes(Takes::Data(Target::Array { first })) => facts.push(said(format!(" at {}", in_array(first)))),
         Phase::Takes(Takes::Data(Target::Security { first })) => {
             facts.push(said(format!(" at {}", in_security(first))));
         }
-        Phase::Takes(Takes::Data(Target::Configuration)) => facts.push(said("configuration")),
-        _ => facts.push(said("lock")),
+        Phase::Takes(Takes::Data(Target::Configuration)) => facts.push(said("stores its configuration")),
+        _ => facts.push(said("locks its ID page")),
     }
     facts
 }
@@ -147,18 +147,18 @@ mod tests {
 
     /// README.md, its first screen.
     const TRACE: [&str; 15] = [
-        "Start: chips 0 1 2 await an address byte",
+        "Start: chips 0 1 2 awaiting an address byte",
         "address chip 1 (24CS32 at strap 1), write: acknowledged",
         "first address byte for chip 1: acknowledged",
         "second address byte for chip 1: acknowledged, counter at 00000 of its array",
         "data for chip 1, 00000 of its array: acknowledged, 1 byte loaded",
         "Stop: chip 1 stores 1 byte at 00000 of its array, busy",
         "write cycle of chip 1 over",
-        "Start: chips 0 1 2 await an address byte",
+        "Start: chips 0 1 2 awaiting an address byte",
         "address chip 1 (24CS32 at strap 1), write: acknowledged",
         "first address byte for chip 1: acknowledged",
         "second address byte for chip 1: acknowledged, counter at 00000 of its array",
-        "Start: chips 0 1 2 await an address byte",
+        "Start: chips 0 1 2 awaiting an address byte",
         "address chip 1 (24CS32 at strap 1), read: acknowledged, sends from 00000 of its array",
         "read, not acknowledged by the host: chip 1 sends A5 from 00000 of its array",
         "Stop",
@@ -178,9 +178,9 @@ mod tests {
 
     #[test]
     fn chips_are_listed() {
-        let list = |chips: &[usize]| listed(chips, "is busy", "are busy");
+        let list = |chips: &[usize]| listed(chips, "busy");
         assert_eq!(list(&[]), None);
-        assert_eq!(list(&[2]).as_deref(), Some("chip 2 is busy"));
-        assert_eq!(list(&[0, 3]).as_deref(), Some("chips 0 3 are busy"));
+        assert_eq!(list(&[2]).as_deref(), Some("chip 2 busy"));
+        assert_eq!(list(&[0, 3]).as_deref(), Some("chips 0 3 busy"));
     }
 }

@@ -3,6 +3,7 @@ use crate::telling::tell_broken;
 use crate::telling::tell_malformed;
 use crate::tracing::is_traced;
 use crate::tracing::write_closing;
+use crate::tracing::write_malformed;
 use crate::tracing::write_traced;
 use base::number::least;
 use bus::Bus;
@@ -46,8 +47,11 @@ fn last(left: u64, lines: u64, status: Status) -> Block
     }
 }
 
-// The line that ends a run. Answers whether it was written.
-pub fn close(number: u8) -> bool {
+// The line that stands for a refused run. Answers whether it was written.
+pub fn close(traced: bool, number: u8) -> bool {
+    if traced {
+        return write_closing(&closing(number), b"  refused: nothing is played\n");
+    }
     write_on(STDOUT_FILENO, &closing(number))
 }
 
@@ -59,12 +63,12 @@ fn broken(what: &[u8], left: u64, lines: u64) -> Block
     last(left, lines, Status::Broken)
 }
 
-// The line that ends a run which is malformed.
+// The line that ends a malformed run.
 fn close_malformed(traced: bool) -> bool {
     if traced {
-        return write_closing(&closing(MALFORMED));
+        return write_malformed(&closing(MALFORMED));
     }
-    close(MALFORMED)
+    write_on(STDOUT_FILENO, &closing(MALFORMED))
 }
 
 // The text has ended: a line that was begun is malformed.

@@ -67,9 +67,9 @@ fn play_input(traced: bool, bus: Bus, array: &mut [u8], security: &mut [u8]) -> 
     answer_input(bus, array, security, &mut tape, &mut said).status
 }
 
-// Nothing is played, or no more.
-fn refused(refusal: Refusal) -> Status {
-    if close(number_of(refusal)) {
+// Nothing is played.
+fn refused(traced: bool, refusal: Refusal) -> Status {
+    if close(traced, number_of(refusal)) {
         return Status::Refused;
     }
     tell_failure(b"standard output");
@@ -90,7 +90,7 @@ fn play(traced: bool, bus: Bus, array: &mut [u8], security: &mut [u8], text: &mu
     let ending = errands::begin(bus, array, security, text);
     match ending {
         Ending::Failed => Status::Broken,
-        Ending::Refused(refusal) => refused(refusal),
+        Ending::Refused(refusal) => refused(traced, refusal),
         Ending::Done => {
             let status = play_input(traced, bus, array, security);
             finish(status, bus, array, security, text)
@@ -114,7 +114,7 @@ fn serve(
     match verdict {
         Verdict::Refused(refusal) => {
             tell_refusal(b"board", 0, refusal);
-            refused(refusal)
+            refused(traced, refusal)
         }
         Verdict::Passed => play(traced, set_up.bus, array, security, text),
     }

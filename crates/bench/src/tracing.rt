@@ -80,21 +80,26 @@ fn write_on_line(before: Bus, after: Bus, answer: &[u8], line: &mut [u8]) -> boo
     write_line(line, ANSWER + GAP + n)
 }
 
-// The line that ends a run has no event. Standard error says what is wrong with it.
-pub fn write_closing(closing: &[u8]) -> bool {
+// A line without an event ends a run, or stands for one that is refused. Standard error says why.
+pub fn write_closing(closing: &[u8], words: &[u8]) -> bool {
     if closing.len() < ANSWER {
         return true;
     }
     and(
         write_on(STDOUT_FILENO, &closing[0..ANSWER]),
-        write_on(STDOUT_FILENO, b"  malformed line: the run ends\n"),
+        write_on(STDOUT_FILENO, words),
     )
+}
+
+// The line that a malformed one is answered with.
+pub fn write_malformed(closing: &[u8]) -> bool {
+    write_closing(closing, b"  malformed line: the run ends\n")
 }
 
 // Answers whether all was written; where nothing is answered yet, nothing is.
 pub fn write_traced(before: Bus, after: Bus, over: bool, answer: &[u8]) -> bool {
     if over {
-        return write_closing(answer);
+        return write_malformed(answer);
     }
     let mut line = [b' '; LINE];
     write_on_line(before, after, answer, &mut line)

@@ -1,8 +1,9 @@
 -- Which chips of a line something holds of.
-use Prim.Native.Nat.{ℕ, _+_, _/_, _%_}
-use mathlib.Core.Bool.{Bool, cond, not, _&&_, _||_}
+use Prim.Native.Nat.{ℕ, _/_, _%_}
+use mathlib.Core.Bool.{Bool, false, cond, not, _&&_, _||_}
 use mathlib.Core.List.{List}
 use lib.Dec.{eqb}
+use lib.ListN.{replicate, set}
 use Rattle.base.specs.Fold.{upTo}
 use Rattle.parts.specs.Part.{geometryOf}
 use Rattle.parts.specs.Address.{answers}
@@ -49,6 +50,7 @@ holdsAt test chips i = holds test (controlAt chips i)
 unfoldable pub who : Test → ℕ → List Chip → ℕ
 who test count chips = upTo (λ (i found : ℕ). cond (holdsAt test chips i) i found) (placed count) nobody
 
--- of how many it holds
-unfoldable pub howMany : Test → ℕ → List Chip → ℕ
-howMany test count chips = upTo (λ (i found : ℕ). cond (holdsAt test chips i) (found + 1) found) (placed count) 0
+-- all of which it holds: a mark at each of the four places
+unfoldable pub which : Test → ℕ → List Chip → List Bool
+which test count chips =
+    upTo (λ (i : ℕ) (marks : List Bool). set marks i (holdsAt test chips i)) (placed count) (replicate 4 false)

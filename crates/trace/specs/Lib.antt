@@ -1,2 +1,5 @@
 pub mod Plain
 pub mod Chips
+pub mod Dropped
+pub mod Ending
+pub mod Role

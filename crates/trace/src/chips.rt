@@ -3,7 +3,6 @@ use base::logic::and;
 use base::logic::or;
 use board::PLACES;
 use board::placed;
-use bus::Bus;
 use chip::Chip;
 use control::Control;
 use control::phase::Phase;
@@ -16,7 +15,7 @@ ghost use mathlib.Core.Path.{_≡_};
 ghost use mathlib.Core.Bool.{cond};
 ghost use Prim.Native.Nat.{_<_};
 ghost use Rattle.lineup.specs.Chips.{chipAt};
-ghost use Rattle.trace.specs.Chips.{isArrayByte, isRegisterByte, hasAddress, isPartner, holds, holdsAt, who, howMany};
+ghost use Rattle.trace.specs.Chips.{isArrayByte, isRegisterByte, hasAddress, isPartner, holds, holdsAt, who, which};
 
 // What is asked of a chip.
 pub enum Test {
@@ -82,7 +81,7 @@ fn holds(test: Test, c: Control) -> bool
     }
 }
 
-pub fn holds_at(test: Test, i: usize, chips: [Chip; PLACES]) -> bool
+fn holds_at(test: Test, i: usize, chips: [Chip; PLACES]) -> bool
     requires { ⌜ i < 4 ⌝ }
     ensures { λ r. ⌜ r ≡ holdsAt test chips i ⌝ }
 {
@@ -114,15 +113,15 @@ pub fn who(test: Test, count: usize, chips: [Chip; PLACES]) -> usize
     found
 }
 
-// How many it holds of.
-pub fn how_many(test: Test, count: usize, chips: [Chip; PLACES]) -> usize
-    ensures { λ r. ⌜ r ≡ howMany test count chips ⌝ }
+// All of which it holds.
+pub fn which(test: Test, count: usize, chips: [Chip; PLACES]) -> [bool; PLACES]
+    ensures { λ r. ⌜ r ≡ which test count chips ⌝ }
 {
     let n = placed(count);
-    let mut found: usize = 0;
+    let mut found = [false; PLACES];
     let mut i: usize = 0;
     while i < n {
-        found = either(holds_at(test, i, chips), found + 1, found);
+        found[i] = holds_at(test, i, chips);
         i += 1;
     }
     found
@@ -136,12 +135,4 @@ pub fn chip_at(chips: [Chip; PLACES], i: usize) -> Chip
         return Chip::fresh(0, 0);
     }
     chips[i]
-}
-
-// The same of a bus.
-pub fn chip_of(bus: Bus, i: usize) -> Chip
-    ensures { λ r. ⌜ r ≡ chipAt (bus .chips) i ⌝ }
-{
-    let chips = bus.chips;
-    chip_at(chips, i)
 }

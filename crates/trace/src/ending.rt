@@ -14,6 +14,9 @@ use protection::id_page_protected;
 use protection::is_protected;
 use regions::page::in_id_page;
 use regions::page::page_of;
+ghost use mathlib.Core.Path.{_≡_};
+ghost use Rattle.parts.specs.Part.{geometryOf};
+ghost use Rattle.trace.specs.Ending.{runOf, endingArray, endingSecurity, endingThree, endingConfiguration, endingLock, endingData, endingOf};
 
 pub enum Ending {
     // The chip took no part in an exchange.
@@ -62,7 +65,9 @@ const LOCK: u32 = 0;
 const WRITABLE: u8 = 4;
 
 // The bytes of a load, in the page that a counter lies in.
-fn run_of(part: u8, at: u32, span: Span) -> Run {
+fn run_of(part: u8, at: u32, span: Span) -> Run
+    ensures { λ r. ⌜ r ≡ runOf (geometryOf part) at span ⌝ }
+{
     let page = geometry_of(part).page;
     let start = page_of(part, at) * page;
     Run {
@@ -72,7 +77,9 @@ fn run_of(part: u8, at: u32, span: Span) -> Run {
     }
 }
 
-fn ending_array(c: Control, span: Span) -> Ending {
+fn ending_array(c: Control, span: Span) -> Ending
+    ensures { λ r. ⌜ r ≡ endingArray c span ⌝ }
+{
     let some = !span.is_empty();
     let free = !is_protected(c);
     if and(some, free) {
@@ -84,7 +91,9 @@ fn ending_array(c: Control, span: Span) -> Ending {
     Ending::StoresNothing(Reason::NoData)
 }
 
-fn ending_security(c: Control, span: Span) -> Ending {
+fn ending_security(c: Control, span: Span) -> Ending
+    ensures { λ r. ⌜ r ≡ endingSecurity c span ⌝ }
+{
     let some = !span.is_empty();
     let free = !id_page_protected(c);
     let inside = in_id_page(c.part, c.securitycounter);
@@ -101,7 +110,9 @@ fn ending_security(c: Control, span: Span) -> Ending {
 }
 
 // Three bytes came for the configuration register.
-fn ending_three(c: Control, first: u8, second: u8, third: u8) -> Ending {
+fn ending_three(c: Control, first: u8, second: u8, third: u8) -> Ending
+    ensures { λ r. ⌜ r ≡ endingThree c first second third ⌝ }
+{
     let stopped = stop_configuration(Came::Three(first, second, third), c);
     let phase = stopped.phase;
     if is_busy(phase) {
@@ -113,7 +124,9 @@ fn ending_three(c: Control, first: u8, second: u8, third: u8) -> Ending {
     Ending::StoresNothing(Reason::NotConfirmed)
 }
 
-fn ending_configuration(c: Control, came: Came) -> Ending {
+fn ending_configuration(c: Control, came: Came) -> Ending
+    ensures { λ r. ⌜ r ≡ endingConfiguration c came ⌝ }
+{
     match came {
         Came::Zero => Ending::StoresNothing(Reason::NoData),
         Came::One(_) => Ending::StoresNothing(Reason::NotThree),
@@ -123,7 +136,9 @@ fn ending_configuration(c: Control, came: Came) -> Ending {
     }
 }
 
-fn ending_lock(c: Control, some: bool) -> Ending {
+fn ending_lock(c: Control, some: bool) -> Ending
+    ensures { λ r. ⌜ r ≡ endingLock c some ⌝ }
+{
     let free = !c.idlocked;
     if and(some, free) {
         return Ending::Stores(Stored::IdLock);
@@ -134,7 +149,9 @@ fn ending_lock(c: Control, some: bool) -> Ending {
     Ending::StoresNothing(Reason::NoData)
 }
 
-fn ending_data(kind: Data, c: Control, span: Span) -> Ending {
+fn ending_data(kind: Data, c: Control, span: Span) -> Ending
+    ensures { λ r. ⌜ r ≡ endingData kind c span ⌝ }
+{
     match kind {
         Data::ToArray => ending_array(c, span),
         Data::ToSecurity => ending_security(c, span),
@@ -144,7 +161,9 @@ fn ending_data(kind: Data, c: Control, span: Span) -> Ending {
     }
 }
 
-pub fn ending_of(chip: Chip) -> Ending {
+pub fn ending_of(chip: Chip) -> Ending
+    ensures { λ r. ⌜ r ≡ endingOf chip ⌝ }
+{
     let control = chip.control;
     let span = chip.span;
     let phase = control.phase;

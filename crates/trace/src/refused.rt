@@ -1,122 +1,74 @@
-// What an event that was refused is called, and why it was refused.
-use crate::chips::Test;
-use crate::naming::put_chip;
-use crate::naming::put_chips;
-use crate::text::put;
-use crate::text::put_hex;
-use bus::Bus;
+// An event that was refused, as a draft: its name, and why it was refused.
+use crate::draft::pick;
 use chip::event::Event;
 use refusal::Refusal;
 use refusal::number_of;
-ghost use Rattle.trace.specs.Plain.{Plain};
 
-fn put_wp_level(out: &mut [u8], level: bool) -> usize
-    ensures { λ r. ⌜ Plain r (now (out .exit)) ⌝ }
-{
-    if level {
-        return put(out, 0, b"WP high");
+// Where the kind is none, the event has no name.
+fn name_number(event: Event, status: u8) -> usize {
+    if status == number_of(Refusal::UnknownKind) {
+        return 0;
     }
-    put(out, 0, b"WP low")
-}
-
-fn put_event(out: &mut [u8], event: Event) -> usize
-    ensures { λ r. ⌜ Plain r (now (out .exit)) ⌝ }
-{
     match event {
-        Event::Start => put(out, 0, b"Start"),
-        Event::Stop => put(out, 0, b"Stop"),
-        Event::Sent(_, _) => put(out, 0, b"byte"),
-        Event::Read(_) => put(out, 0, b"read"),
-        Event::Wp(level) => put_wp_level(out, level),
-        Event::CycleOver => put(out, 0, b"write cycle over"),
-        Event::PowerUp => put(out, 0, b"power up"),
+        Event::Start => 1,
+        Event::Stop => 2,
+        Event::Sent(_, _) => 3,
+        Event::Read(_) => 4,
+        Event::Wp(level) => { if level { 6 } else { 5 } }
+        Event::CycleOver => 7,
+        Event::PowerUp => 8,
     }
-}
-
-fn put_refused(out: &mut [u8], at: usize, number: u8) -> usize
-    requires { ⌜ Plain at (now out) ⌝ }
-    ensures { λ r. ⌜ Plain r (now (out .exit)) ⌝ }
-{
-    let at = put(out, at, b": refused (");
-    let at = put_hex(out, at, number);
-    put(out, at, b")")
 }
 
 // 7: which values are allowed.
-fn put_values(out: &mut [u8], at: usize, event: Event) -> usize
-    requires { ⌜ Plain at (now out) ⌝ }
-    ensures { λ r. ⌜ Plain r (now (out .exit)) ⌝ }
-{
+fn value_number(event: Event) -> usize {
     match event {
-        Event::Start => put(out, at, b", the value is not 00"),
-        Event::Stop => put(out, at, b", the value is not 00"),
-        Event::Sent(_, _) => at,
-        Event::Read(_) => put(out, at, b", the value is neither 00 nor 01"),
-        Event::Wp(_) => put(out, at, b", there is no such chip"),
-        Event::CycleOver => put(out, at, b", there is no such chip"),
-        Event::PowerUp => put(out, at, b", the value is not 00"),
+        Event::Start => 2,
+        Event::Stop => 2,
+        Event::Sent(_, _) => 0,
+        Event::Read(_) => 3,
+        Event::Wp(_) => 4,
+        Event::CycleOver => 4,
+        Event::PowerUp => 2,
     }
 }
 
 // 8: who is in the way.
-fn put_clash(out: &mut [u8], at: usize, event: Event, bus: Bus) -> usize
-    requires { ⌜ Plain at (now out) ⌝ }
-    ensures { λ r. ⌜ Plain r (now (out .exit)) ⌝ }
-{
-    let at = put(out, at, b", ");
+fn clash_number(event: Event) -> usize {
     match event {
-        Event::Start => at,
-        Event::Stop => at,
-        Event::Sent(_, _) => put_chips(
-            out,
-            at,
-            bus,
-            Test::Partner,
-            b" is sending",
-            b" are sending",
-        ),
-        Event::Read(_) => put_chips(
-            out,
-            at,
-            bus,
-            Test::Takes,
-            b" is taking bytes",
-            b" are taking bytes",
-        ),
-        Event::Wp(_) => at,
-        Event::CycleOver => at,
-        Event::PowerUp => at,
+        Event::Sent(_, _) => 5,
+        Event::Read(_) => 6,
+        _ => 0,
     }
 }
 
-fn put_not_busy(out: &mut [u8], at: usize, i: usize) -> usize
-    requires { ⌜ Plain at (now out) ⌝ }
-    ensures { λ r. ⌜ Plain r (now (out .exit)) ⌝ }
-{
-    let at = put(out, at, b", ");
-    let at = put_chip(out, at, i);
-    put(out, at, b" is not busy")
+fn reason_number(event: Event, status: u8) -> usize {
+    if status == number_of(Refusal::UnknownKind) {
+        return 1;
+    }
+    if status == number_of(Refusal::WrongValue) {
+        return value_number(event);
+    }
+    if status == number_of(Refusal::Clash) {
+        return clash_number(event);
+    }
+    if status == number_of(Refusal::NotBusy) {
+        return 7;
+    }
+    0
 }
 
-// An event that was refused with a number. `value` is the event's.
-pub fn put_refusal(out: &mut [u8], bus: Bus, event: Event, value: u8, number: u8) -> usize
-    ensures { λ r. ⌜ Plain r (now (out .exit)) ⌝ }
-{
-    if number == number_of(Refusal::UnknownKind) {
-        let at = put(out, 0, b"no event");
-        let at = put_refused(out, at, number);
-        return put(out, at, b", the kind is not 01 to 08");
-    }
-    let at = put_event(out, event);
-    let at = put_refused(out, at, number);
-    if number == number_of(Refusal::WrongValue) {
-        return put_values(out, at, event);
-    }
-    if number == number_of(Refusal::Clash) {
-        return put_clash(out, at, event, bus);
-    }
-    if number == number_of(Refusal::NotBusy) {
-        return put_not_busy(out, at, value as usize);
-    }
-    at
+pub fn say_refused(draft: &mut [u8], event: Event, status: u8) -> usize {
+    let at = pick(
+        draft,
+        0,
+        name_number(event, status),
+        b"no event: refused ($b)|Start: refused ($b)|Stop: refused ($b)|byte: refused ($b)|read: refused ($b)|WP low: refused ($b)|WP high: refused ($b)|write cycle over: refused ($b)|power up: refused ($b)",
+    );
+    pick(
+        draft,
+        at,
+        reason_number(event, status),
+        b"|, the kind is not 01 to 08|, the value is not 00|, the value is neither 00 nor 01|, there is no such chip|, chip $c is sending|, $t taking bytes|, chip $c is not busy",
+    )
 }

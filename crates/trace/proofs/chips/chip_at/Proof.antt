@@ -1,3 +1,4 @@
+-- Past the last place a fresh chip stands for none.
 use Rattle.lineup.specs.Chips.{noChip}
 use lib.ListN.{List·getD-eq-default}
 use native.Mathlib.Omega.{arith}

@@ -1,3 +1,4 @@
+-- The test in the order of the definition.
 use borrow.Author.Needs.{needs}
 use Rattle.trace.proofs.chips.holds.Statement.{statement}
 use Rattle.trace.proofs.chips.holds.Tie as tie

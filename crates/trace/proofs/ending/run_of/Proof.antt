@@ -42,7 +42,7 @@ add-t12 : tie.Need-add-t12
 add-t12 c = search needs
 
 returns : tie.Need-returns
-returns c = search needs
+returns c = rw (c .before .before .before .page-of .ensures, c .before .before .before .before .geometry-of .ensures)
 
 pub run-of-spec : {M : Type 1} → statement M
 run-of-spec =

@@ -1,3 +1,4 @@
+-- A byte that is put is no LF, and those before it stay.
 use Rattle.trace.proofs.Plain.{plain-more}
 use borrow.Author.Needs.{needs}
 use Rattle.trace.proofs.text.put_byte.Statement.{statement}

@@ -1,4 +1,5 @@
--- The public contracts of this crate leave one result: any two that they allow are equal. That of `words` says only that they fit their room.
+-- The public contracts of this crate leave one result: any two that they allow are equal. That of `words` says only that they fit their
+-- room and have no LF.
 use Rattle.base.proofs.Unique.{Unique, same}
 use Rattle.trace.proofs.chips.is_array_byte.Kinds as is-array-byte-kinds
 use Rattle.trace.proofs.chips.is_array_byte.Reads as is-array-byte-reads

@@ -1,4 +1,5 @@
--- What a chip loses where an exchange is broken off: a Start drops any pending load, and a power up clears it (paper, "Start" and "Power up").
+-- What a chip loses where an exchange is broken off: a Start drops any pending load, and a power up clears it (paper, "Start" and
+-- "Power up").
 use mathlib.Core.Bool.{Bool, cond}
 use Rattle.load.specs.declared.Span.{Span}
 use Rattle.load.specs.Span.{isEmpty}

@@ -1,5 +1,5 @@
-// A draft of the words: texts in which marks stand for facts (`text` says which). What is too long is cut. Each function puts something behind
-// the first `at` bytes of a draft, and says how many there are then.
+// A draft of the words: texts in which marks stand for facts (`facts` has them). What is too long is cut. Each function puts something
+// behind the first `at` bytes of a draft, and says how many there are then.
 use base::logic::and;
 
 // Stands between texts of which one is picked.

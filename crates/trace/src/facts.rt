@@ -16,8 +16,8 @@ use control::phase::Phase;
 use control::phase::Source;
 use load::Span;
 
-// Each has a mark: c the chip, p its part and strap, a an address, n how many bytes, b a byte; then lists of chips: w those that await a byte after
-// the event, t those that take bytes before it, y those that are busy then, h those that are chosen.
+// Each has a mark: c the chip, p its part and strap, a an address, n how many bytes, b a byte; then lists of chips: w those that await a
+// byte after the event, t those that take bytes before it, y those that are busy then, h those that are chosen.
 pub struct Facts {
     pub chip: usize,
     pub part: u8,

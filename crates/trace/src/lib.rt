@@ -1,4 +1,5 @@
-// An event and its answer in words for a person. What an event is for the chips that it meets is defined (`Role`); the words for it are not.
+// An event and its answer in words for a person. What an event is for the chips that it meets is defined (`Role`); the words for it are
+// not.
 mod about;
 pub mod chips;
 mod draft;
@@ -44,8 +45,8 @@ fn finish(out: &mut [u8], draft: &[u8], size: usize, facts: Facts) -> usize
     write_out(out, &draft[0..end], facts)
 }
 
-// Puts the words for an event and its answer at the start of a buffer, and says how many bytes they are. `before` is the bus that the event met,
-// `after` what it left. What is too long is cut, and no LF is put.
+// Puts the words for an event and its answer at the start of a buffer, and says how many bytes they are. `before` is the bus that the
+// event met, `after` what it left. What is too long is cut, and no LF is put.
 pub fn words(before: Bus, after: Bus, event: u16, answer: u16, out: &mut [u8]) -> usize
     ensures { λ r. ⌜ Plain r (now (out .exit)) ⌝ }
 {

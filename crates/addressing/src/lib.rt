@@ -1,4 +1,5 @@
 // An address byte, and the byte after F8h (paper, "Address byte" and "Device ID"; sheets 3.3 and 11.0).
+#![tactic(auto)]
 ghost use Rattle.std.specs.Prelude.{◌≡◌};
 ghost use Rattle.parts.specs.Part.{geometry_of};
 ghost use Rattle.addressing.specs.Address.{call_by_form, is_able, call_of, source_of, take_address, take_identify, is_named, take_busy, take_choice};
@@ -19,7 +20,7 @@ const F8: u8 = 0xF8;
 const F9: u8 = 0xF9;
 
 // What an address byte asks of a chip. A write to the array carries A16.
-#[derive(Drop)]
+#[derive(Clone, Copy)]
 pub enum Call {
     ReadArray,
     WriteArray(bool),

@@ -1,5 +1,6 @@
 // What the words on the command line ask for. A word that asks for a file is load:K:FILE or save:K:FILE, where K is the chip's digit
 // (request E1).
+#![tactic(auto)]
 pub mod page;
 pub mod status;
 pub mod trace;
@@ -10,7 +11,7 @@ ghost use Rattle.asking.specs.Asking.{opens, asked_of, asked_by};
 use transcript::digit::{DIGITS, digit_of};
 
 // What a word asks for: the chip to be loaded or saved. `Asks`, in specs/Asking.antt, has the words of each case.
-#[derive(Drop)]
+#[derive(Clone, Copy)]
 pub enum Asked {
     Load(usize),
     Save(usize),

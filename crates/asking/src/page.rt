@@ -8,7 +8,7 @@ use base::logic::and;
 use transcript::digit::{DIGITS, digit_of};
 
 // Chip, store and page.
-#[derive(Drop)]
+#[derive(Clone, Copy)]
 pub enum PageAsked {
     Page(usize, u8, usize),
     Unknown,

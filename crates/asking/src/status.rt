@@ -5,7 +5,7 @@ ghost use Rattle.asking.specs.Status.{status_asked};
 use crate::opens;
 use transcript::digit::{DIGITS, digit_of};
 
-#[derive(Drop)]
+#[derive(Clone, Copy)]
 pub enum StatusAsked {
     On(u8),
     Unknown,

@@ -5,17 +5,17 @@ use Prim.Native.Nat.{ℕ}
 use mathlib.Core.List.{List, [], ◌∷◌}
 use seplogic.Ra.Ura.{Ura}
 use mir.Val.{Val}
-use base.Logic.{ent, guard, via, snd∗}
+use base.Logic.{ent, via, snd∗}
 use types.Logic.{Logic, sem}
 use contract.Lifetimes.{Lfts, Shares}
-use contract.Monad.{fact, guard→fact, fact_mono}
+use contract.Monad.{fact, fact_i, fact_mono}
 use denote.RattleType.{Valss, owns}
 use denote.Signature.{types_at}
 use denote.Triple.Clauses.{AtExit}
 use denote.Triple.Entry.{alive, on_entry}
 use borrow.Fn.Kind.{ParamKind, ResultKind}
 use borrow.Fn.Kinds.{Out, Dens, GoodsP, res_t, ended_of, slots, sig_of}
-use borrow.Fn.Between.{owns-in, ownsᵒ, res_old, ownRᵒ}
+use borrow.Fn.Between.{Seen, goods, owns-Seen}
 
 pub record Call {n : ℕ} (ps : List (ParamKind n)) (r : ResultKind n) (ensures : Out n ps r) : Type 0 where
   pub lifetimes : Lfts n
@@ -30,12 +30,10 @@ module _ {M : Type 1} {𝓤 : Ura M} (𝓛 : Logic 𝓤) (n : ℕ) (ps : List (P
   pub begins_good : (a : Dens κs ps) (vss : Valss (types_at (slots ps) κs)) → ent 𝓤 (on_entry 𝓛 (sig_of n ps r) κs qs a vss) (fact 𝓤 (GoodsP κs ps a))
   begins_good a vss =
       let owned = sem 𝓛 (owns (types_at (slots ps) κs) a vss) in
-      let held = sem 𝓛 (ownsᵒ κs ps a) in
       via 𝓤 owned (snd∗ 𝓤 (alive 𝓛 (sig_of n ps r) κs qs) owned)
-      (via 𝓤 (guard 𝓤 _ held) (owns-in 𝓛 n κs ps a vss) (via 𝓤 (fact 𝓤 _) (guard→fact 𝓤 _ held) (fact_mono 𝓤 _ _ (λ both. both.1))))
+      (via 𝓤 (fact 𝓤 (Seen 𝓛 n κs ps a vss)) (owns-Seen 𝓛 n κs ps a vss) (fact_mono 𝓤 _ _ (goods 𝓛 n κs ps a vss)))
 
-  pub ends_ok : (x : (res_t r κs).Denot) (v : Val) → ent 𝓤 (sem 𝓛 ((res_t r κs).own x (v ∷ []))) (fact 𝓤 (r.is.Ok κs x))
+  pub ends_ok : (x : (res_t r κs).Denot) (v : Val) → ent 𝓤 (sem 𝓛 ((res_t r κs).own_val x (v ∷ []))) (fact 𝓤 (r.is.Ok κs x))
   ends_ok x v =
-      let held = sem 𝓛 (ownRᵒ κs r x) in
-      via 𝓤 (guard 𝓤 _ held) (res_old 𝓛 n κs r x (v ∷ []))
-      (via 𝓤 (fact 𝓤 _) (guard→fact 𝓤 _ held) (fact_mono 𝓤 _ _ (λ is. (r.laws M 𝓤 𝓛).ok κs x (v ∷ []) is)))
+      let laws = r.laws M 𝓤 𝓛 in
+      via 𝓤 (fact 𝓤 (r.is.Is κs x (v ∷ []))) (laws.seen κs x (v ∷ [])) (fact_mono 𝓤 _ _ (laws.ok κs x (v ∷ [])))

@@ -17,7 +17,7 @@ use transcript::frame::LF;
 // The program's own name is the first word.
 const OWN: usize = 1;
 
-#[derive(Drop)]
+#[derive(Clone, Copy)]
 enum Word {
     Chip(Place),
     Errand,
@@ -28,7 +28,7 @@ enum Word {
 }
 
 // What is said of all words: the first that is none is named by its place.
-#[derive(Drop)]
+#[derive(Clone, Copy)]
 pub enum Words {
     Known,
     Unknown(usize),
@@ -37,13 +37,13 @@ pub enum Words {
 }
 
 // Where the launcher hears how the run ended.
-#[derive(Drop)]
+#[derive(Clone, Copy)]
 pub enum Told {
     Nowhere,
     On(u8),
 }
 
-#[derive(Drop)]
+#[derive(Clone, Copy)]
 pub struct Arguments {
     pub words: Words,
     pub board: Board,

@@ -16,7 +16,7 @@ use transcript::frame::{FRAME_BYTES, MALFORMED};
 
 // Whether there is text to be answered, and how much of the tape it fills. Nothing says that input ends, so a count falls at each block.
 // How many lines were answered before it; and where there is no more, how the run ended.
-#[derive(Drop)]
+#[derive(Clone, Copy)]
 pub struct Block {
     pub more: bool,
     pub filled: usize,

@@ -1,6 +1,7 @@
 // The bench program: a transcript on standard input, answers on standard output (paper, "The transcript"). Words on the command line
 // name another board than the paper's, files to be loaded before and saved after (request E1), and what is to be seen of it. One bus
 // state is held in `answer_input`, lent to each block and moved on where it stands.
+#![tactic(auto)]
 mod arguments;
 mod block;
 mod telling;

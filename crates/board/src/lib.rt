@@ -1,4 +1,5 @@
 // A board: which part stands at which strap, what set-up asks of it, and the shares that its chips have of the two stores.
+#![tactic(auto)]
 pub mod shares;
 
 ghost use Rattle.std.specs.Prelude.{◌≡◌, ◌≤◌, ◌<◌};
@@ -16,7 +17,7 @@ use refusal::{Refusal, Verdict};
 pub const PLACES: usize = 4;
 
 // Raw numbers, since a board may be asked for with any.
-#[derive(Drop)]
+#[derive(Clone, Copy)]
 pub struct Place {
     pub part: u8,
     pub strap: u8,

@@ -9,7 +9,7 @@ use base::logic::or;
 use parts::part::geometry_of;
 
 // Which of its two regions a chip's share is for.
-#[derive(Drop)]
+#[derive(Clone, Copy)]
 pub enum Region {
     Array,
     Security,

@@ -1,4 +1,5 @@
 // The bench's bus: one to four chips on a line, set up, stepped and run (paper, "What the bench plays" and "Events and replies").
+#![tactic(auto)]
 ghost use Rattle.std.specs.Prelude.{◌≡◌, ◌≤◌, length, []};
 ghost use Rattle.refusal.specs.Checks.{first_of};
 ghost use Rattle.board.specs.Place.{placed};
@@ -19,7 +20,7 @@ use refusal::{Answer, Refusal, Verdict, answer_word};
 
 // `started`: a Start is remembered, so that the next byte sent is an address byte, whoever is busy (request E8). It stands last, so that the chips
 // lie where copying them is cheap.
-#[derive(Drop)]
+#[derive(Clone, Copy)]
 pub struct Bus {
     pub count: usize,
     pub chips: [Chip; PLACES],
@@ -27,19 +28,19 @@ pub struct Bus {
     pub started: bool,
 }
 
-#[derive(Drop)]
+#[derive(Clone, Copy)]
 pub struct SetUp {
     pub bus: Bus,
     pub verdict: Verdict,
 }
 
-#[derive(Drop)]
+#[derive(Clone, Copy)]
 pub struct Stepped {
     pub bus: Bus,
     pub answer: Answer,
 }
 
-#[derive(Drop)]
+#[derive(Clone, Copy)]
 pub struct Ran {
     pub bus: Bus,
     pub verdict: Verdict,
@@ -251,7 +252,7 @@ fn remembers(event: Event, started: bool) -> bool
 }
 
 // What an event leaves, and its answer. Values and stores are lent, so that they are not copied from function to function.
-#[derive(Drop)]
+#[derive(Clone, Copy)]
 struct Done {
     chips: [Chip; PLACES],
     answer: Answer,

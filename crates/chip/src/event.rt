@@ -1,5 +1,5 @@
 // An event as one chip meets it (paper, "Events and replies").
-#[derive(Drop)]
+#[derive(Clone, Copy)]
 pub enum Event {
     Start,
     Stop,

@@ -1,5 +1,6 @@
 // One chip: what each event does to it and to its shares of the two stores, and what it says (paper, "How one chip behaves"). The values of
 // its load are lent, as the shares are.
+#![tactic(auto)]
 pub mod event;
 
 ghost use Rattle.std.specs.Prelude.{◌≡◌};
@@ -10,13 +11,13 @@ use control::phase::{Phase, is_busy};
 use control::{Control, Said};
 use load::{PAGE_MOST, Span};
 
-#[derive(Drop)]
+#[derive(Clone, Copy)]
 pub struct Chip {
     pub control: Control,
     pub span: Span,
 }
 
-#[derive(Drop)]
+#[derive(Clone, Copy)]
 pub struct Stepped {
     pub chip: Chip,
     pub said: Said,

@@ -1,4 +1,5 @@
 // A chip without its page load: its pins, registers and counters, and where it stands in an exchange.
+#![tactic(auto)]
 pub mod phase;
 
 ghost use Rattle.std.specs.Prelude.{◌≡◌};
@@ -9,7 +10,7 @@ ghost use Rattle.control.specs.Said.{acked, silent, occupied, stays};
 use crate::phase::{Phase, Shown};
 
 // Part and strap are raw numbers, since a malformed state may hold any. The counters are `array` and `security`.
-#[derive(Drop)]
+#[derive(Clone, Copy)]
 pub struct Control {
     pub part: u8,
     pub strap: u8,
@@ -25,7 +26,7 @@ pub struct Control {
 }
 
 // What a chip says to an event. `Occupied`: it is busy, and an address byte names it (request E8).
-#[derive(Drop)]
+#[derive(Clone, Copy)]
 pub enum Said {
     Nothing,
     Ack,
@@ -33,7 +34,7 @@ pub enum Said {
     Byte(u8),
 }
 
-#[derive(Drop)]
+#[derive(Clone, Copy)]
 pub struct Answered {
     pub control: Control,
     pub said: Said,

@@ -1,4 +1,5 @@
 // A conversation over a transcript: the lines of a text are answered one after the other by a bus that is lent (paper, "The transcript").
+#![tactic(auto)]
 mod pending;
 pub mod tape;
 
@@ -14,7 +15,7 @@ use inplace::step_in_place;
 use reader::Reader;
 
 // How much of a text was used, how much was said, and whether a malformed line has ended the run.
-#[derive(Drop)]
+#[derive(Clone, Copy)]
 pub struct Heard {
     pub used: usize,
     pub written: usize,

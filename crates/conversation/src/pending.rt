@@ -15,7 +15,7 @@ use refusal::{Answer, answer_word};
 use transcript::digit::{DIGITS, digit_of};
 use transcript::frame::{FRAME_BYTES, Frame, MALFORMED};
 
-#[derive(Drop)]
+#[derive(Clone, Copy)]
 pub struct Pending {
     pub more: bool,
     pub event: u16,

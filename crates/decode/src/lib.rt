@@ -1,4 +1,5 @@
 // What an event word asks for (paper, "Events and replies").
+#![tactic(auto)]
 pub mod hearing;
 
 ghost use Rattle.std.specs.Prelude.{◌≡◌};
@@ -31,7 +32,7 @@ const POWER_UP: u8 = 8;
 const NACK: u8 = 1;
 
 // An event for every chip, or for the chip named.
-#[derive(Drop)]
+#[derive(Clone, Copy)]
 pub enum Addressed {
     ToAll(Event),
     ToOne(u8, Event),

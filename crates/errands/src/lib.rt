@@ -1,5 +1,6 @@
 // The errands on the command line: files to be loaded before a run, pages to be shown and files to be saved after it (request E1). The
 // words are gone through once for each step, so that there may be any number of them.
+#![tactic(auto)]
 mod dump;
 pub mod telling;
 
@@ -32,7 +33,7 @@ const TEXT: usize = 2_097_152;
 
 // What is done in turn. Before the run each chip and page must be there, files are loaded, and those to be saved must take writing; after
 // it pages are shown, and files saved.
-#[derive(Drop)]
+#[derive(Clone, Copy)]
 enum Step {
     Check,
     Load,
@@ -53,7 +54,7 @@ fn is_before(step: Step) -> bool {
 }
 
 // How the errands ended: all done, one refused, or a file not to be had. What is not done is told on standard error.
-#[derive(Drop)]
+#[derive(Clone, Copy)]
 pub enum Ending {
     Done,
     Refused(Refusal),

@@ -1,5 +1,6 @@
 // What is wrong with a line of a transcript (paper, "The transcript"): lower-case digits, CR LF and a missing last LF are everybody's
 // first mistakes, and FFFF0900 names none of them.
+#![tactic(auto)]
 ghost use Rattle.std.specs.Prelude.{◌≡◌};
 ghost use Rattle.fault.specs.Fault.{is_lower_case, is_blank, digits_in, fault_among, fault_after, fault_of};
 
@@ -7,7 +8,7 @@ use base::logic::{and, or};
 use transcript::digit::{DIGITS, digit_of};
 use transcript::frame::LF;
 
-#[derive(Drop)]
+#[derive(Clone, Copy)]
 pub enum Fault {
     // Four digits and LF.
     NoFault,

@@ -1,9 +1,10 @@
 // Whole files, by name. No contract can say what a file holds, only that what was read fits the buffer.
+#![tactic(auto)]
 ghost use Rattle.std.specs.Prelude.{◌≤◌, length};
 ghost use Rattle.files.specs.Content.{size_of};
 
 // What came of reading a file: its size, all of which stands at the buffer's start; more than the buffer holds; or C's error number.
-#[derive(Drop)]
+#[derive(Clone, Copy)]
 pub enum Content {
     Whole(usize),
     TooLong,
@@ -11,7 +12,7 @@ pub enum Content {
 }
 
 // What came of writing one: done, or C's error number.
-#[derive(Drop)]
+#[derive(Clone, Copy)]
 pub enum Outcome {
     Done,
     Failed(i32),

@@ -1,3 +1,4 @@
+#![tactic(auto)]
 pub mod checks;
 pub mod digit;
 pub mod fields;

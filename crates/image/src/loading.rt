@@ -12,7 +12,7 @@ use hexline::fields::{DATA, END, UPPER, kind_in, line_size, put_data, upper_in};
 use refusal::{Refusal, Verdict, is_passed};
 
 // What loading answers, with the line at fault: 1 for the first, 0 where nothing of the text is.
-#[derive(Drop)]
+#[derive(Clone, Copy)]
 pub struct Loaded {
     pub verdict: Verdict,
     pub line: usize,
@@ -20,7 +20,7 @@ pub struct Loaded {
 
 // The place of the next record, the upper 16 address bits in force, how many records were read, whether the last was the end, and what
 // is said of them.
-#[derive(Drop)]
+#[derive(Clone, Copy)]
 pub struct Reading {
     pub at: usize,
     pub upper: u16,

@@ -15,7 +15,7 @@ use parts::part::geometry_of;
 use refusal::{Refusal, Verdict};
 
 // What saving answers, and how many bytes the text has.
-#[derive(Drop)]
+#[derive(Clone, Copy)]
 pub struct Saved {
     pub verdict: Verdict,
     pub written: usize,

@@ -7,7 +7,7 @@ use board::shares::array_start;
 use bus::Bus;
 use lineup::places_of;
 
-#[derive(Drop)]
+#[derive(Clone, Copy)]
 pub struct Share {
     pub start: usize,
     pub end: usize,

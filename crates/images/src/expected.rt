@@ -2,7 +2,7 @@
 // line at fault, and the file; numbers are in decimal.
 use base::logic::and;
 
-#[derive(Drop)]
+#[derive(Clone, Copy)]
 pub struct Expected {
     pub part: u8,
     pub number: usize,

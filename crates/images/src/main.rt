@@ -1,5 +1,6 @@
 // Loads recorded Intel HEX files, each into an erased chip, and saves those that are taken (request E1). A word on the command line
 // names a file and what is expected of it.
+#![tactic(auto)]
 mod expected;
 mod recorded;
 mod whole;
@@ -13,7 +14,7 @@ const OWN: usize = 1;
 // A word has fewer bytes than this.
 const WORD: usize = 100;
 
-#[derive(Drop)]
+#[derive(Clone, Copy)]
 struct Tally {
     played: u64,
     differ: u64,

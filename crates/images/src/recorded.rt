@@ -31,7 +31,7 @@ const ERASED: u8 = 0xFF;
 const SHORT_TEXT: usize = 19;
 
 // Whether a file is there and no longer than the buffer, and how much of that it fills.
-#[derive(Drop)]
+#[derive(Clone, Copy)]
 struct Known {
     known: bool,
     size: usize,

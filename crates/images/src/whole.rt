@@ -19,7 +19,7 @@ const UPPER_ROWS: usize = 4_096;
 const BYTE: usize = 256;
 
 // How far a recording was read, and how many bytes of the whole text there are.
-#[derive(Drop)]
+#[derive(Clone, Copy)]
 struct Filled {
     from: usize,
     at: usize,

@@ -1,4 +1,5 @@
 // An event on the line: every chip that it reaches takes it, each on its own shares of the two stores.
+#![tactic(auto)]
 ghost use Rattle.std.specs.Prelude.{◌≡◌, true, cond, ◌≤◌, ◌^◌};
 ghost use Rattle.parts.specs.Part.{geometry_of};
 ghost use Rattle.refusal.specs.Checks.{first_of};
@@ -30,7 +31,7 @@ const ACKNOWLEDGE: u8 = 0x01;
 
 const OCCUPIED: u8 = 0x02;
 
-#[derive(Drop)]
+#[derive(Clone, Copy)]
 pub struct Played {
     pub chips: [Chip; PLACES],
     pub said: Said,
@@ -195,7 +196,7 @@ fn take_each(
 
 // Where the shares of a chip end that begin at two places of the stores. They are cut at the stores' ends, so that stores of a wrong length are
 // safe too; a step lets none through.
-#[derive(Drop)]
+#[derive(Clone, Copy)]
 struct Ends {
     array: usize,
     security: usize,

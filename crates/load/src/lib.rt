@@ -1,5 +1,6 @@
 // A page load: which places of a page are loaded, and how a Stop stores their values (paper, "Data" and "Stop"; request E10). The values are
 // lent: at most one chip of a line is loading, so the line has room for one page.
+#![tactic(auto)]
 ghost use Rattle.std.specs.Prelude.{◌≡◌, ◌≤◌, ◌<◌};
 ghost use Rattle.parts.specs.Part.{geometry_of};
 ghost use Rattle.regions.specs.Page.{place_of};
@@ -13,7 +14,7 @@ use regions::page::{page_of, place_of};
 pub const PAGE_MOST: usize = 256;
 
 // The first place that was loaded, and how many were: loaded bytes run on, going round the page. A whole page of 256 bytes does not fit a byte.
-#[derive(Drop)]
+#[derive(Clone, Copy)]
 pub struct Span {
     pub first: u8,
     pub count: u16,

@@ -3,7 +3,7 @@ ghost use Rattle.std.specs.Prelude.{◌≡◌};
 ghost use Rattle.parts.specs.Part.{is_part, geometry_24csm01, geometry_24cs32, geometry_at24cm01, geometry_of};
 
 // Source document 000.
-#[derive(Drop)]
+#[derive(Clone, Copy)]
 pub struct Part24CSM01 {}
 
 impl Part24CSM01 {
@@ -48,7 +48,7 @@ impl Part24CSM01 {
 }
 
 // Source document 001.
-#[derive(Drop)]
+#[derive(Clone, Copy)]
 pub struct Part24CS32 {}
 
 impl Part24CS32 {
@@ -93,7 +93,7 @@ impl Part24CS32 {
 }
 
 // Source document 002. It has no zones and no ID: these figures are never read (request E7).
-#[derive(Drop)]
+#[derive(Clone, Copy)]
 pub struct PartAT24CM01 {}
 
 impl PartAT24CM01 {
@@ -139,7 +139,7 @@ impl PartAT24CM01 {
 
 // A part's figures by value: sizes in bytes, the number of straps, the three ID bytes; and its abilities: it has
 // registers, which 1011 bytes are for, and it identifies itself, which F8h and F9h are for.
-#[derive(Drop)]
+#[derive(Clone, Copy)]
 pub struct Geometry {
     pub array: u32,
     pub page: u32,

@@ -7,7 +7,7 @@ use board::shares::{array_start, security_start};
 use board::{PLACES, Place};
 use parts::part::Part24CS32;
 
-#[derive(Drop)]
+#[derive(Clone, Copy)]
 pub struct Board {
     pub count: usize,
     pub places: [Place; PLACES],

@@ -1,4 +1,5 @@
 // Chips placed on a board: a word that names a place is PART:STRAP, a digit each, as 1:0 or 2:5 (docs/DECISIONS.md, D35).
+#![tactic(auto)]
 pub mod layout;
 
 ghost use Rattle.std.specs.Prelude.{◌≡◌, cond};
@@ -13,7 +14,7 @@ pub const NAME: usize = 3;
 const COLON: u8 = b':';
 
 // What a word names. The places of each case: `places_in`, in specs/Placing.antt.
-#[derive(Drop)]
+#[derive(Clone, Copy)]
 pub enum NamedPlace {
     Named(Place),
     Unknown,

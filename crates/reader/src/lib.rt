@@ -1,12 +1,13 @@
 // The reader carries the transcript it was lent and its place in it (paper, "The transcript"). Its functions take the reader
 // apart, and leave the work to functions of a slice and a number.
+#![tactic(auto)]
 ghost use Rattle.std.specs.Prelude.{◌≡◌};
 ghost use Rattle.transcript.specs.Frame.{meaning};
 ghost use Rattle.reader.specs.Reader.{from_start, Answered};
 
 use transcript::frame::{Frame, frame_at};
 
-#[derive(Drop)]
+#[derive(Clone, Copy)]
 pub struct Reader<'a> {
     pub text: &'a [u8],
     pub at: usize,

@@ -1,10 +1,11 @@
 // What the bench refuses, with the paper's numbers, and what it answers (paper, "Events and replies").
+#![tactic(auto)]
 ghost use Rattle.std.specs.Prelude.{◌≡◌};
 ghost use Rattle.refusal.specs.Refusal.{number_of, status_of, answer_word};
 ghost use Rattle.refusal.specs.Checks.{is_passed};
 
 // In the order of the paper's table, then of the requests. Number 9, a malformed line, is the transcript's.
-#[derive(Drop)]
+#[derive(Clone, Copy)]
 pub enum Refusal {
     // No chips, or more than four.
     WrongCount,
@@ -39,14 +40,14 @@ pub enum Refusal {
 }
 
 // What an operation's checks say.
-#[derive(Drop)]
+#[derive(Clone, Copy)]
 pub enum Verdict {
     Passed,
     Refused(Refusal),
 }
 
 // The answer to one event: its reply, or why it was refused.
-#[derive(Drop)]
+#[derive(Clone, Copy)]
 pub enum Answer {
     Done(u8),
     Refused(Refusal),

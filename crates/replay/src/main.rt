@@ -1,5 +1,6 @@
 // Plays recorded transcripts, each on a fresh bus, and compares the answers with those that are recorded. The words on the command
 // line are the recordings' names; before a name stand the words of its board, PART:STRAP, and without any it is the paper's.
+#![tactic(auto)]
 mod recording;
 
 use libc::STDOUT_FILENO;
@@ -13,7 +14,7 @@ const OWN: usize = 1;
 // A word has fewer bytes than this.
 const WORD: usize = 100;
 
-#[derive(Drop)]
+#[derive(Clone, Copy)]
 struct Tally {
     board: Board,
     played: u64,

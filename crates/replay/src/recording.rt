@@ -21,7 +21,7 @@ const PATH: usize = 128;
 const ENDING: usize = 8;
 
 // How much of a buffer a file fills, where it is there and does not fill all of it.
-#[derive(Drop)]
+#[derive(Clone, Copy)]
 struct Content {
     known: bool,
     size: usize,

@@ -1,4 +1,5 @@
 // A chip that sends: what a byte read by the host does to it (paper, "Read", "Configuration" and "Device ID").
+#![tactic(auto)]
 ghost use Rattle.std.specs.Prelude.{◌≡◌, get_or};
 ghost use Rattle.parts.specs.Part.{geometry_of};
 ghost use Rattle.sending.specs.Sending.{no_byte, id_byte, next_id_place, byte_from, moved_past, after_reply, send, read};

@@ -1,8 +1,9 @@
 // How a run ended. Where several apply, the greatest number counts.
+#![tactic(auto)]
 ghost use Rattle.std.specs.Prelude.{◌≡◌};
 ghost use Rattle.status.specs.Status.{number_of, greatest};
 
-#[derive(Drop)]
+#[derive(Clone, Copy)]
 pub enum Status {
     // All was answered.
     Answered,

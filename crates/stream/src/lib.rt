@@ -1,5 +1,6 @@
 // Standard input and output, read and written with patience: a signal may interrupt a call, and a descriptor may be set not to wait.
 // No contract can say what is read or written, only that what came fits the room.
+#![tactic(auto)]
 ghost use Rattle.std.specs.Prelude.{◌≤◌, length};
 ghost use Rattle.stream.specs.Came.{size_of};
 
@@ -7,7 +8,7 @@ use libc::types::timespec;
 
 // What came of one call: so many bytes, at the start of what was lent; nothing yet, to be asked again; the end; or a failure, of which
 // C's errno still tells.
-#[derive(Drop)]
+#[derive(Clone, Copy)]
 pub enum Came {
     Bytes(usize),
     Nothing,

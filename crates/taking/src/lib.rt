@@ -1,5 +1,6 @@
 // A chip that takes bytes: what a byte sent by the host does to it, its load left aside (paper, "Data", "Configuration" and
 // "Security register").
+#![tactic(auto)]
 ghost use Rattle.std.specs.Prelude.{◌≡◌};
 ghost use Rattle.taking.specs.Taking.{came_more, take_lock_data, take_data, take, loaded_data, loaded};
 

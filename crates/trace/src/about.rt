@@ -4,7 +4,7 @@ use base::logic::and;
 use bus::Bus;
 use control::phase::{Phase, is_busy};
 
-#[derive(Drop)]
+#[derive(Clone, Copy)]
 pub struct About {
     // The event's value, and the reply to it.
     pub value: u8,

@@ -11,7 +11,7 @@ use control::phase::{Phase, is_awaiting, is_busy, is_sending, is_taking};
 use parts::address::answers;
 
 // What is asked of a chip.
-#[derive(Drop)]
+#[derive(Clone, Copy)]
 pub enum Test {
     // It is the host's partner.
     Partner,

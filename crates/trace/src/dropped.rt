@@ -6,7 +6,7 @@ use chip::Chip;
 use control::phase::{Came, Data, Phase};
 use load::Span;
 
-#[derive(Drop)]
+#[derive(Clone, Copy)]
 pub enum Dropped {
     Nothing,
     // So many bytes of a page.

@@ -14,7 +14,7 @@ use parts::part::geometry_of;
 use protection::{id_page_protected, is_protected};
 use regions::page::{in_id_page, page_of};
 
-#[derive(Drop)]
+#[derive(Clone, Copy)]
 pub enum Ending {
     // The chip took no part in an exchange.
     Idle,
@@ -27,7 +27,7 @@ pub enum Ending {
 }
 
 // What is stored. Of the configuration register both bytes.
-#[derive(Drop)]
+#[derive(Clone, Copy)]
 pub enum Stored {
     InArray(Run),
     InSecurity(Run),
@@ -37,14 +37,14 @@ pub enum Stored {
 
 // So many bytes from an address on. Those that go round come to the end of the page, and go on at its start. An address is wide, so that no
 // state makes it wrap.
-#[derive(Drop)]
+#[derive(Clone, Copy)]
 pub struct Run {
     pub first: u64,
     pub count: u16,
     pub round: bool,
 }
 
-#[derive(Drop)]
+#[derive(Clone, Copy)]
 pub enum Reason {
     // The word address is not whole.
     NoAddress,

@@ -11,7 +11,7 @@ use load::Span;
 
 // Each has a mark: c the chip, p its part and strap, a an address, n how many bytes, b a byte; then lists of chips: w those that await a
 // byte after the event, t those that take bytes before it, y those that are busy then, h those that are chosen.
-#[derive(Drop)]
+#[derive(Clone, Copy)]
 pub struct Facts {
     pub chip: usize,
     pub part: u8,

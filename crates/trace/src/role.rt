@@ -11,13 +11,13 @@ use chip::event::Event;
 use control::phase::{Data, Phase, Source, Word};
 
 // A chip by its number, or NOBODY.
-#[derive(Drop)]
+#[derive(Clone, Copy)]
 pub struct Role {
     pub chip: usize,
     pub act: Act,
 }
 
-#[derive(Drop)]
+#[derive(Clone, Copy)]
 pub enum Act {
     // It breaks off what the host's partner was at.
     Start(Dropped),

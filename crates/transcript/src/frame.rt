@@ -13,7 +13,7 @@ pub const MALFORMED: u8 = 9;
 pub const FRAME_BYTES: usize = 5;
 
 // What stands at a place of a transcript. The paper's number and values of each case: `meaning`, in specs/Frame.antt.
-#[derive(Drop)]
+#[derive(Clone, Copy)]
 pub enum Frame {
     // An event, and the place after its line.
     Event(u16, usize),

@@ -1,1 +1,2 @@
 // Theorems only: chips do not disturb each other (docs/PROMISES.md, demand 3).
+#![tactic(auto)]

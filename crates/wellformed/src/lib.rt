@@ -1,4 +1,5 @@
 // A chip's own part of what makes a state well formed (paper, "Well formed means").
+#![tactic(auto)]
 pub mod beside;
 
 ghost use Rattle.std.specs.Prelude.{◌≡◌};

@@ -1,4 +1,5 @@
 // Word-address bytes, of the array and of the registers (paper, "Write", "Security register" and "Configuration"; sheets 3.3.2).
+#![tactic(auto)]
 ghost use Rattle.std.specs.Prelude.{◌≡◌};
 ghost use Rattle.wordaddress.specs.WordAddress.{register_of, is_lock, take_array_second, take_register_first, take_register_second, take_security, take_lock, take_word};
 
@@ -8,7 +9,7 @@ use parts::part::geometry_of;
 use regions::counter::counter_in;
 
 // What the first word-address byte after a 1011 address byte names (Table 3-3).
-#[derive(Drop)]
+#[derive(Clone, Copy)]
 pub enum Register {
     Security,
     Configuration,

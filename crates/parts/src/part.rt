@@ -163,6 +163,7 @@ pub fn is_part(part: u8) -> bool
 }
 
 // A number that is no part has the 24CS32's figures, so that every function above is total; no bus lets one through.
+#[tactic(auto, unfolding(crate::specs::Part::geometry_of))]
 pub fn geometry_of(part: u8) -> Geometry
     ensures { result ≡ geometry_of part }
 {

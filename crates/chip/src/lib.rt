@@ -1,6 +1,7 @@
 // One chip: what each event does to it and to its shares of the two stores, and what it says (paper, "How one chip behaves"). The values of
 // its load are lent, as the shares are.
 #![tactic(auto)]
+
 pub mod event;
 
 ghost use Rattle.std.specs.Prelude.{◌≡◌};

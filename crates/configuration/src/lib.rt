@@ -1,5 +1,6 @@
 // Writing the configuration register: two bytes and a confirmation, no more and no less (paper, "Configuration"; sheets 9.3, 9.5).
 #![tactic(auto)]
+
 ghost use Rattle.std.specs.Prelude.{◌≡◌};
 ghost use Rattle.configuration.specs.Configuration.{confirms, configure, stop_configuration};
 

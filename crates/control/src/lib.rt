@@ -1,5 +1,6 @@
 // A chip without its page load: its pins, registers and counters, and where it stands in an exchange.
 #![tactic(auto)]
+
 pub mod phase;
 
 ghost use Rattle.std.specs.Prelude.{◌≡◌};

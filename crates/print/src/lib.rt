@@ -1,5 +1,6 @@
 // An event and its answer as text: kind, value, status, reply as eight digits, then LF (paper, "The transcript").
 #![tactic(auto)]
+
 ghost use Rattle.std.specs.Prelude.{◌≡◌, ◌<◌};
 ghost use Rattle.print.specs.Print.{digit_text, byte_text, printed, closing};
 

@@ -1,5 +1,6 @@
 // What is protected at a Stop (paper, "Protection"; sheets 6.6).
 #![tactic(auto)]
+
 ghost use Rattle.std.specs.Prelude.{◌≡◌};
 ghost use Rattle.protection.specs.Protection.{is_protected, id_page_protected};
 

@@ -1,5 +1,6 @@
 // What the bench refuses, with the paper's numbers, and what it answers (paper, "Events and replies").
 #![tactic(auto)]
+
 ghost use Rattle.std.specs.Prelude.{◌≡◌};
 ghost use Rattle.refusal.specs.Refusal.{number_of, status_of, answer_word};
 ghost use Rattle.refusal.specs.Checks.{is_passed};

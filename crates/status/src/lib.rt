@@ -1,5 +1,6 @@
 // How a run ended. Where several apply, the greatest number counts.
 #![tactic(auto)]
+
 ghost use Rattle.std.specs.Prelude.{◌≡◌};
 ghost use Rattle.status.specs.Status.{number_of, greatest};
 

@@ -1,5 +1,6 @@
 // Word-address bytes, of the array and of the registers (paper, "Write", "Security register" and "Configuration"; sheets 3.3.2).
 #![tactic(auto)]
+
 ghost use Rattle.std.specs.Prelude.{◌≡◌};
 ghost use Rattle.wordaddress.specs.WordAddress.{register_of, is_lock, take_array_second, take_register_first, take_register_second, take_security, take_lock, take_word};
 

@@ -1,6 +1,7 @@
 // A page load: which places of a page are loaded, and how a Stop stores their values (paper, "Data" and "Stop"; request E10). The values are
 // lent: at most one chip of a line is loading, so the line has room for one page.
 #![tactic(auto)]
+
 ghost use Rattle.std.specs.Prelude.{◌≡◌, ◌≤◌, ◌<◌};
 ghost use Rattle.parts.specs.Part.{geometry_of};
 ghost use Rattle.regions.specs.Page.{place_of};

@@ -1,6 +1,7 @@
 // What a Stop does: it starts a write cycle, or ends the exchange without one (paper, "Stop", "Protection", "Security register"
 // and "Configuration").
 #![tactic(auto)]
+
 ghost use Rattle.std.specs.Prelude.{◌≡◌};
 ghost use Rattle.load.specs.Load.{load_of};
 ghost use Rattle.cycle.specs.Stop.{writes_array, writes_security, stop_array, stop_security, stop_lock, stop_data, stop};
@@ -84,6 +85,7 @@ fn stop_data(
 }
 
 // A Stop. A busy chip takes no notice.
+#[tactic(auto, unfolding(crate::specs::Stop::stop))]
 pub fn stop(
     c: Control,
     span: Span,

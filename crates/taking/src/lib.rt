@@ -1,6 +1,7 @@
 // A chip that takes bytes: what a byte sent by the host does to it, its load left aside (paper, "Data", "Configuration" and
 // "Security register").
 #![tactic(auto)]
+
 ghost use Rattle.std.specs.Prelude.{◌≡◌};
 ghost use Rattle.taking.specs.Taking.{came_more, take_lock_data, take_data, take, loaded_data, loaded};
 
@@ -57,6 +58,7 @@ fn take_data(kind: Data, c: Control, byte: u8) -> Answered
 }
 
 // A byte sent, by the phase that it meets; `first` after a Start or not. A chip on standby or sending says nothing and stays.
+#[tactic(auto, unfolding(crate::specs::Taking::take))]
 pub fn take(c: Control, first: bool, byte: u8) -> Answered
     ensures { result ≡ take c first byte }
 {
@@ -87,6 +89,7 @@ fn loaded_data(kind: Data, span: Span, c: Control, byte: u8, values: &mut [u8; P
 }
 
 // What is loaded after a byte sent, and the values.
+#[tactic(auto, unfolding(crate::specs::Taking::span_after, crate::specs::Taking::values_after))]
 pub fn loaded(span: Span, c: Control, byte: u8, values: &mut [u8; PAGE_MOST]) -> Span
     ensures { (result, values.new) ≡ loaded span c byte values.old }
 {

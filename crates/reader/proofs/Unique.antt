@@ -1,5 +1,5 @@
--- Every contract of the reader leaves one outcome. The checker makes no plain reading of a function that is walked by hand, so
--- for each it is first shown which fact its `ensures` is, by computation, and then that this fact leaves one outcome.
+-- Every contract of the reader leaves one outcome. For each it is first shown which fact its `ensures` is, by computation, and
+-- then that this fact leaves one outcome.
 use Prim.Native.Nat.{ℕ}
 use mathlib.Core.List.{List}
 use mathlib.Core.Path.{◌≡◌, refl}

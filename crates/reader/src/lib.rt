@@ -1,6 +1,7 @@
 // The reader carries the transcript it was lent and its place in it (paper, "The transcript"). Its functions take the reader
 // apart, and leave the work to functions of a slice and a number.
 #![tactic(auto)]
+
 ghost use Rattle.std.specs.Prelude.{◌≡◌};
 ghost use Rattle.transcript.specs.Frame.{meaning};
 ghost use Rattle.reader.specs.Reader.{from_start, Answered};

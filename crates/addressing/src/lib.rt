@@ -1,5 +1,6 @@
 // An address byte, and the byte after F8h (paper, "Address byte" and "Device ID"; sheets 3.3 and 11.0).
 #![tactic(auto)]
+
 ghost use Rattle.std.specs.Prelude.{◌≡◌};
 ghost use Rattle.parts.specs.Part.{geometry_of};
 ghost use Rattle.addressing.specs.Address.{call_by_form, is_able, call_of, source_of, take_address, take_identify, is_named, take_busy, take_choice};
@@ -32,6 +33,7 @@ pub enum Call {
 }
 
 // By its form alone, whatever the part is able to do.
+#[tactic(auto, unfolding(crate::specs::Address::call_by_form))]
 fn call_by_form(part: u8, strap: u8, byte: u8) -> Call
     ensures { result ≡ call_by_form (geometry_of part) strap byte }
 {
@@ -77,6 +79,7 @@ fn is_able(part: u8, call: Call) -> bool
 }
 
 // What the part is not able to do is asked of nobody.
+#[tactic(auto, unfolding(crate::specs::Address::call_of))]
 pub fn call_of(part: u8, strap: u8, byte: u8) -> Call
     ensures { result ≡ call_of (geometry_of part) strap byte }
 {
@@ -110,6 +113,7 @@ fn take_identify(c: Control) -> Answered
 }
 
 // Any address byte but F9h drops the choice.
+#[tactic(auto, unfolding(crate::specs::Address::take_address))]
 pub fn take_address(c: Control, byte: u8) -> Answered
     ensures { result ≡ take_address c byte }
 {
@@ -143,6 +147,7 @@ fn is_named(call: Call) -> bool
 }
 
 // A byte that finds the chip busy: only an address byte that names it gets a word (request E8).
+#[tactic(auto, unfolding(crate::specs::Address::take_busy))]
 pub fn take_busy(c: Control, first: bool, byte: u8) -> Answered
     ensures { result ≡ take_busy c first byte }
 {
@@ -154,6 +159,7 @@ pub fn take_busy(c: Control, first: bool, byte: u8) -> Answered
 }
 
 // The byte after F8h chooses the chip whose 1010 address it is, for reading or writing.
+#[tactic(auto, unfolding(crate::specs::Address::take_choice))]
 pub fn take_choice(c: Control, byte: u8) -> Answered
     ensures { result ≡ take_choice c byte }
 {

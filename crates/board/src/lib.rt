@@ -1,5 +1,6 @@
 // A board: which part stands at which strap, what set-up asks of it, and the shares that its chips have of the two stores.
 #![tactic(auto)]
+
 pub mod shares;
 
 ghost use Rattle.std.specs.Prelude.{◌≡◌, ◌≤◌, ◌<◌};
@@ -97,6 +98,7 @@ fn any_shared_address(n: usize, places: [Place; PLACES]) -> bool
 }
 
 // Checks 1 to 4 of set-up, in that order over all chips. Places past the count are ignored.
+#[tactic(auto, unfolding(crate::specs::Board::board_verdict), using(crate::proofs::Laws::placed_most))]
 pub fn board_verdict(count: usize, places: [Place; PLACES]) -> Verdict
     ensures { result ≡ board_verdict count places }
 {

@@ -1,0 +1,11 @@
+-- One test more is one index more of the definition.
+use Rattle.std.proofs.Common.{arith}
+use Rattle.base.proofs.Fold.{up_none, up_more}
+use Rattle.board.proofs.any_strap_outside.Goals as goal
+
+pub loop-i-init : goal.loop-i-init
+loop-i-init c = (up_none _ _, omega arith)
+
+pub loop-i-preserved : goal.loop-i-preserved
+loop-i-preserved c =
+    (up_more _ _ _ c.loop-i.invariant.0 (rw (← c.geometry_of-straps.ensures) c.or-found.ensures), omega arith)

@@ -1,0 +1,11 @@
+-- The loop's test so far is the definition's up to i.
+use Rattle.std.proofs.Common.{◌≡◌, ◌-◌, ◌≤◌}
+use Rattle.base.specs.Fold.{any_below}
+use Rattle.board.specs.Board.{strap_outside}
+use Rattle.board.proofs.any_strap_outside.Given as goal
+
+abbrev pub invariant-loop-i : goal.invariant-loop-i
+invariant-loop-i l = (l.found ≡ any_below (strap_outside l.places) l.i) × (l.i ≤ l.n)
+
+abbrev pub decreases-loop-i : goal.decreases-loop-i
+decreases-loop-i l = l.n - l.i

@@ -1,5 +1,6 @@
 // What an event word asks for (paper, "Events and replies").
 #![tactic(auto)]
+
 pub mod hearing;
 
 ghost use Rattle.std.specs.Prelude.{◌≡◌};
@@ -102,6 +103,7 @@ fn addressed_in(started: bool, kind: u8, value: u8) -> Addressed
 }
 
 // What a word that passes them asks for.
+#[tactic(auto, unfolding(crate::specs::Decode::addressed_of))]
 pub fn addressed_of(started: bool, word: u16) -> Addressed
     ensures { result ≡ addressed_of started word }
 {

@@ -1,5 +1,6 @@
 // A chip's own part of what makes a state well formed (paper, "Well formed means").
 #![tactic(auto)]
+
 pub mod beside;
 
 ghost use Rattle.std.specs.Prelude.{◌≡◌};
@@ -172,6 +173,7 @@ fn span_fits(c: Control, span: Span) -> bool
     )
 }
 
+#[tactic(auto, unfolding(crate::specs::Wellformed::well_formed))]
 pub fn well_formed(chip: Chip) -> bool
     ensures { result ≡ well_formed chip }
 {

@@ -3,12 +3,13 @@
 --     Ref, Slice               what a `&mut T`, a `&mut [T]` owns: x is its place, its name and its value, vs a slice's machine
 --                              values
 --     HeldRef, HeldSlice       the same with the token of its lifetime: what the holder has
---     lend-ref, lend-slice     the holder's part becomes the token of the new lifetime ν, what is lent, under the new name δ, and
+--     lend_ref, lend_slice     the holder's part becomes the token of the new lifetime ν, what is lent, under the new name δ, and
 --                              what the holder keeps
 --     ref_back, slice_back     these three, with the last value in the place of what was lent, become the holder's part at it
---     lend-shared, shared_back     the same of a `&mut [T]` that is lent as a `&[T]`, and comes back as it was
---     open_ref, shut-ref       the value behind a `&mut T` stands in its cell, where it is read and stored, until it is shut again
---     lend-local, local_back   the same of plain data in a local: its cell is lent, and comes back with what is known of its value
+--     lend_shared, shared_back     the same of a `&mut [T]` that is lent as a `&[T]`, and comes back as it was
+--     bytes_shared             what `lend_shared` asks of the elements, for bytes
+--     open_ref, shut_ref       the value behind a `&mut T` stands in its cell, where it is read and stored, until it is shut again
+--     lend_local, local_back   the same of plain data in a local: its cell is lent, and comes back with what is known of its value
 --     as_long                  a slice that is the same for the machine as when it was passed is as long as it was
 --     asks, answers            a call with no code around it: what is asked for is at the head, and what comes back is taken apart
 use mathlib.Core.Path.{◌≡◌, refl, sym, ◌∙◌, ap, subst}
@@ -16,8 +17,8 @@ use Prim.Native.Nat.{ℕ}
 use mathlib.Core.List.{List, [], ◌∷◌}
 use lib.ListN.{length}
 use seplogic.Ra.Ura.{Ura}
-use seplogic.Ra.TreeShare.{full_share}
-use mir.Syntax.{Name, Ty, erased}
+use base.Fraction.{full_share}
+use mir.Syntax.{Callee, Ty, erased, w8}
 use mir.Val.{Val, vptr}
 use base.Logic.{SProp, ent, sep, via, mono_l, id⊢}
 use base.Fml.{Lft, Share, GName, Fml, fsep, feq, fat, flft, flent, fobor, fobs, fauth, fres}
@@ -32,8 +33,11 @@ use denote.RattleType.{RattleType}
 use denote.Shadow.{pure_l, pure_i}
 use denote.Laws.{Tells, Makes, Is, shows}
 use denote.Memory.{mem, shares, cell_at, part_of}
-use denote.Ref.{Bor, MutBor, MutRef, at_last}
-use denote.Slice.{slice_val, MutSlice, ShrSlice, Room, finally, shr_slice_at, mut_slice_at, heres, coded_holeys, mut_slice_Fixes}
+use denote.Shares.{Shares}
+use denote.Copied.{uint_Copied}
+use denote.Builtin.{u8}
+use denote.Ref.{Bor, MutBor, MutRef, at_last, as_bor}
+use denote.Slice.{slice_val, MutSlice, ShrSlice, Room, finally, mut_slice_at, heres, coded_holeys, mut_slice_Fixes}
 use denote.Lend.{Held, LentAgain, lends_ref, ref_back as cell_back, lends_again, comes_back, lends_slice, slice_back as memory_back, lends_shr_slice}
 use denote.Index.{row, whole_in, whole_out, opens_slice, closes_slice}
 use denote.Signature.{type_at}
@@ -53,7 +57,7 @@ local l h δ = record { ref_ptr = (l, 0); ghost_name = δ; now = h }
 
 module _ (R : RattleType) (κ : Lft) where
   abbrev pub Ref : MutBor R.Denot → Fml
-  Ref x = (MutRef erased κ R).own_val x (vptr x.ptr.0 x.ptr.1 ∷ [])
+  Ref x = (MutRef erased κ R).own_val x (vptr x.ref_ptr.0 x.ref_ptr.1 ∷ [])
 
   abbrev pub Slice : MutBor (List R.Denot) → List Val → Fml
   Slice x vs = (MutSlice erased κ R).own_val x vs
@@ -62,10 +66,10 @@ module _ (R : RattleType) (κ : Lft) where
   Shared x vs = (ShrSlice erased κ R).own_val x vs
 
   module _ (q : Share) where
-    abbrev pub HeldRef : Bor R.Denot → Fml
+    abbrev pub HeldRef : MutBor R.Denot → Fml
     HeldRef x = fsep (Ref x) (flft κ q)
 
-    abbrev pub HeldSlice : Bor (List R.Denot) → List Val → Fml
+    abbrev pub HeldSlice : MutBor (List R.Denot) → List Val → Fml
     HeldSlice x vs = fsep (Slice x vs) (flft κ q)
 
     abbrev pub KeptRef : MutBor R.Denot → ℕ → GName → Fml
@@ -98,6 +102,10 @@ module _ {M : Type 1} {𝓤 : Ura M} (𝓛 : Logic 𝓤) where
   from_cell : (R : RattleType) {τ : Ty} → R.mir ≡ τ ∷ [] → (b o : ℕ) (v : Val) → ent 𝓤 (sem 𝓛 (cell_at full_share R.mir (v ∷ []) b o)) (sem 𝓛 (fat full_share τ b o v))
   from_cell R {τ} one b o v = subst (λ (τs : List Ty). ent 𝓤 (sem 𝓛 (cell_at full_share τs (v ∷ []) b o)) (sem 𝓛 (fat full_share τ b o v))) (sym one) (𝓛.laws.raw_at full_share τ b o v)
 
+  -- bytes can be shared out for any lifetime
+  pub bytes_shared : (l : Lft) → Shares 𝓛 u8 l
+  bytes_shared = (uint_Copied 𝓛 w8).shares full_share
+
 module _ {M : Type 1} {𝓤 : Ura M} {𝓛 : Logic 𝓤} {K : Type 0} {Γ : List (Item 𝓤)} {G : Goal 𝓤 𝓛.H} where
   pub lend_ref : K → Soaks G → (R : RattleType) (x : MutBor R.Denot) {κ : Lft} {q : Share}
       → ((ν : ℕ) (δ : GName) → Seq K 𝓛 (‵ (flft (ν ∷ []) full_share) ∷ ‵ (Ref R (ν ∷ []) (under x δ)) ∷ ‵ (KeptRef R κ q x ν δ) ∷ Γ) G) → Seq K 𝓛 (‵ (HeldRef R κ q x) ∷ Γ) G
@@ -111,7 +119,7 @@ module _ {M : Type 1} {𝓤 : Ura M} {𝓛 : Logic 𝓤} {K : Type 0} {Γ : List
       use3 𝓛 (later (‵ (HeldRef R κ q (at_last x y)))) (comes_back 𝓛 R erased κ (ν ∷ []) q x.ghost_name x.ref_ptr.0 x.ref_ptr.1 δ x.now y) $ await t z $ s)
 
   -- val is a value's machine value
-  pub open_ref : K → Soaks G → (R : RattleType) (val : R.Denot → Val) → Tells R (Is R) (λ h. val h ∷ []) → {τ : Ty} → R.mir ≡ τ ∷ [] → (x : Bor R.Denot) {κ : Lft} {q : Share}
+  pub open_ref : K → Soaks G → (R : RattleType) (val : R.Denot → Val) → Tells R (Is R) (λ h. val h ∷ []) → {τ : Ty} → R.mir ≡ τ ∷ [] → (x : MutBor R.Denot) {κ : Lft} {q : Share}
       → (Is R x.now (val x.now ∷ []) → Seq K 𝓛 (‵ (fat full_share τ x.ref_ptr.0 x.ref_ptr.1 (val x.now)) ∷ ‵ (Opened R κ q x) ∷ Γ) G) → Seq K 𝓛 (‵ (HeldRef R κ q x) ∷ Γ) G
   unfolding Opened
   open_ref t z R val tells {τ} one x k =
@@ -147,20 +155,21 @@ module _ {M : Type 1} {𝓤 : Ura M} {𝓛 : Logic 𝓤} {K : Type 0} {Γ : List
       move t (1 ∷ []) $ fsplit3 t $ move t (3 ∷ []) $ closes_slice t z R x.now ys same x.ref_ptr.0 x.ref_ptr.1 $
       fjoin t $ pure_i t (mut_slice_at R (at_last x ys) vs) (tt, (tt, tt)) (p.0 ∙ ap (λ (m : ℕ). slice_val x.ref_ptr m ∷ []) (sym same), subst (Room R) (sym same) p.1) $ fjoin t $ fjoin t $ s)))
 
-  pub lend_shared : K → Soaks G → (R : RattleType) (x : MutBor (List R.Denot)) (vs : List Val) {κ : Lft} {q : Share}
-      → ((ν : ℕ) (δ : GName) → Seq K 𝓛 (‵ (flft (ν ∷ []) full_share) ∷ ‵ (Shared R (ν ∷ []) (under x δ) vs) ∷ ‵ (KeptShared R κ q x vs ν) ∷ Γ) G) → Seq K 𝓛 (‵ (HeldSlice R κ q x vs) ∷ Γ) G
-  lend_shared t z R x vs {κ} {q} k = fsplit t $ fsplit t $ pure_l t (mut_slice_at R x vs) (λ p. fsplit t $ opens_slice t z R x.now x.ref_ptr.0 x.ref_ptr.1 $
-      feq_i t ℕ (length x.now) (length x.now) refl $ fjoin t $ lft_new t z (λ ν. move t (1 ∷ []) $
-      use1 𝓛 (later (some (λ (δ : GName). ‵ (Shared R (ν ∷ []) (under x δ) (slice_val x.ref_ptr (length x.now) ∷ [])) ⊛ ‵ (flent (ν ∷ []) ((arr_parts (shares R) (length x.now)).part full_share x.now x.ref_ptr.0 x.ref_ptr.1)))))
-      (lends_shr_slice 𝓛 R erased (ν ∷ []) full_share x.now x.ref_ptr.0 x.ref_ptr.1 p.1) $ await t z $ pick t (λ δ. split t $ rewrite t 0 (λ (us : List Val). ‵ (Shared R (ν ∷ []) (under x δ) us)) (sym p.0) refl $
+  -- `shared` is that a T can be shared out for a lifetime of its own, as plain data can (`bytes_shared`)
+  pub lend_shared : K → Soaks G → (R : RattleType) → ((ν : ℕ) → Shares 𝓛 R (ν ∷ [])) → (x : MutBor (List R.Denot)) (vs : List Val) {κ : Lft} {q : Share}
+      → ((ν : ℕ) → Seq K 𝓛 (‵ (flft (ν ∷ []) full_share) ∷ ‵ (Shared R (ν ∷ []) (as_bor x) vs) ∷ ‵ (KeptShared R κ q x vs ν) ∷ Γ) G) → Seq K 𝓛 (‵ (HeldSlice R κ q x vs) ∷ Γ) G
+  lend_shared t z R shared x vs {κ} {q} k = fsplit t $ fsplit t $ pure_l t (mut_slice_at R x vs) (λ p. fsplit t $ opens_slice t z R x.now x.ref_ptr.0 x.ref_ptr.1 $
+      feq_i t ℕ (length x.now) (length x.now) refl $ fjoin t $ lft_new t z (λ ν. move t (1 ∷ 0 ∷ []) $
+      use2 𝓛 (later ((‵ (Shared R (ν ∷ []) (as_bor x) (slice_val x.ref_ptr (length x.now) ∷ [])) ⊛ ‵ (flent (ν ∷ []) ((arr_parts (shares R) (length x.now)).part full_share x.now x.ref_ptr.0 x.ref_ptr.1))) ⊛ ‵ (flft (ν ∷ []) full_share)))
+      (lends_shr_slice 𝓛 R erased (ν ∷ []) full_share x.now x.ref_ptr.0 x.ref_ptr.1 p.1 (ν ∷ []) (shared ν) ((ν ∷ [], full_share) ∷ []) (λ a m. m) (λ a m. m)) $ await t z $ split t $ split t $ rewrite t 0 (λ (us : List Val). ‵ (Shared R (ν ∷ []) (as_bor x) us)) (sym p.0) refl $
       -- [what is lent; the memory that is to come back; the new token; the open borrow, and the two halves of its name]
-      move t (4 ∷ 5 ∷ []) $ fjoin t $ move t (4 ∷ 0 ∷ []) $ fjoin t $ move t (2 ∷ 0 ∷ []) $ fjoin t $ pure_i t (mut_slice_at R x vs) (tt, (tt, tt)) p $ fjoin t $ move t (2 ∷ 1 ∷ []) $ k ν δ)))
+      move t (4 ∷ 5 ∷ []) $ fjoin t $ move t (4 ∷ 0 ∷ []) $ fjoin t $ move t (2 ∷ 0 ∷ []) $ fjoin t $ pure_i t (mut_slice_at R x vs) (tt, (tt, tt)) p $ fjoin t $ move t (2 ∷ 1 ∷ []) $ k ν))
 
-  pub shared_back : K → Soaks G → (R : RattleType) (x : Bor (List R.Denot)) (vs : List Val) {κ : Lft} {q : Share} {ν : ℕ}
+  pub shared_back : K → Soaks G → (R : RattleType) (x : MutBor (List R.Denot)) (vs : List Val) {κ : Lft} {q : Share} {ν : ℕ}
       → Step K 𝓛 (‵ (HeldSlice R κ q x vs) ∷ Γ) G (‵ (flft (ν ∷ []) full_share) ∷ ‵ (KeptShared R κ q x vs ν) ∷ Γ) G
-  shared_back t z R x vs {κ} {q} {ν} = step (λ s. lft_end t z $ move t (1 ∷ []) $ fsplit t $ pure_l t (shr_slice_at R x vs) (λ p. fsplit t $ move t (2 ∷ 0 ∷ []) $ lent_back t z $ fsplit t $ drop t $
+  shared_back t z R x vs {κ} {q} {ν} = step (λ s. lft_end t z $ move t (1 ∷ []) $ fsplit t $ pure_l t (mut_slice_at R x vs) (λ p. fsplit t $ move t (2 ∷ 0 ∷ []) $ lent_back t z $ fsplit t $ drop t $
       -- [the memory; the open borrow, and the two halves of its name]
-      move t (1 ∷ []) $ fsplit3 t $ move t (3 ∷ []) $ closes_slice t z R x.now x.now refl x.ref_ptr.0 x.ref_ptr.1 $ fjoin t $ pure_i t (shr_slice_at R x vs) (tt, (tt, tt)) p $ fjoin t $ fjoin t $ s))
+      move t (1 ∷ []) $ fsplit3 t $ move t (3 ∷ []) $ closes_slice t z R x.now x.now refl x.ref_ptr.0 x.ref_ptr.1 $ fjoin t $ pure_i t (mut_slice_at R x vs) (tt, (tt, tt)) p $ fjoin t $ fjoin t $ s))
 
   -- v is the value's machine value
   pub lend_local : K → Soaks G → (R : RattleType) → Makes 𝓛 R (Is R) → {τ : Ty} → R.mir ≡ τ ∷ [] → (l : ℕ) (h : R.Denot) (v : Val) → Is R h (v ∷ [])
@@ -168,7 +177,7 @@ module _ {M : Type 1} {𝓤 : Ura M} {𝓛 : Logic 𝓤} {K : Type 0} {Γ : List
   unfolding part_of
   lend_local t z R makes {τ} one l h v is k =
       use1 𝓛 (‵ (cell_at full_share R.mir (v ∷ []) l 0)) (to_cell 𝓛 R one l 0 v) $
-      owned t R (Is R) makes h (v ∷ []) is $ move t (1 ∷ 0 ∷ []) $ fjoin t $ fpack t (List Val) (λ us. fsep (cell_at full_share R.mir us l 0) (R.own h us)) (v ∷ []) $ lft_new t z (λ ν. move t (1 ∷ []) $
+      owned t R (Is R) makes h (v ∷ []) is $ move t (1 ∷ 0 ∷ []) $ fjoin t $ fpack t (List Val) (λ us. fsep (cell_at full_share R.mir us l 0) (R.own_val h us)) (v ∷ []) $ lft_new t z (λ ν. move t (1 ∷ []) $
       use1 𝓛 (later (some (λ (δ : GName). ‵ (Ref R (ν ∷ []) (local l h δ)) ⊛ ‵ (flent (ν ∷ []) (Body (mem R) l 0 δ))))) (lends_ref 𝓛 R erased (ν ∷ []) h l 0) $ await t z $ pick t (λ δ. split t $ move t (2 ∷ []) $ k ν δ))
 
   pub local_back : K → Soaks G → (R : RattleType) (val : R.Denot → Val) → Tells R (Is R) (λ h. val h ∷ []) → {τ : Ty} → R.mir ≡ τ ∷ [] → (l : ℕ) (h : R.Denot) {ν : ℕ} {δ : GName}
@@ -196,7 +205,7 @@ module _ {M : Type 1} {𝓤 : Ura M} {𝓛 : Logic 𝓤} {K : Type 0} {Γ : List
 module _ {M : Type 1} {𝓤 : Ura M} {𝓛 : Logic 𝓤} {K : Type 0} {Γ : List (Item 𝓤)} where
   open 𝓛 use {H}
 
-  pub asks : K → {C : Calls 𝓤 H} → FmC 𝓤 H 𝓛.laws C → {f : Name} (c : Contract 𝓤) → Triple 𝓤 (C f) c → (y : c.Ghost) {Q : Val → SProp 𝓤}
+  pub asks : K → {C : Calls 𝓤 H} → FmC 𝓤 H 𝓛.laws C → {f : Callee} (c : Contract 𝓤) → Triple 𝓤 (C f) c → (y : c.Ghost) {Q : Val → SProp 𝓤}
       → ((w : Val) → Seq K 𝓛 (raw (c.post y w) ∷ Γ) (prop (Q w))) → Seq K 𝓛 (raw (c.pre y) ∷ Γ) (prop (C f (c.args y) Q))
   asks t {C} fm {f} c met y {Q} k = record {
     prf = via 𝓤 (sep 𝓤 (c.pre y) (⋆ 𝓛 Γ)) (pop 𝓛 (raw (c.pre y)) Γ)

@@ -1,6 +1,7 @@
 // What the words on the command line ask for. A word that asks for a file is load:K:FILE or save:K:FILE, where K is the chip's digit
 // (request E1).
 #![tactic(auto)]
+
 pub mod page;
 pub mod status;
 pub mod trace;

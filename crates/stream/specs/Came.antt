@@ -7,4 +7,4 @@ abbrev pub size_of : Came → ℕ
 size_of (Bytes size) = size
 size_of Nothing = 0
 size_of Ended = 0
-size_of Failed = 0
+size_of (Failed error) = 0

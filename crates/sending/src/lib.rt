@@ -1,5 +1,6 @@
 // A chip that sends: what a byte read by the host does to it (paper, "Read", "Configuration" and "Device ID").
 #![tactic(auto)]
+
 ghost use Rattle.std.specs.Prelude.{◌≡◌, get_or};
 ghost use Rattle.parts.specs.Part.{geometry_of};
 ghost use Rattle.sending.specs.Sending.{no_byte, id_byte, next_id_place, byte_from, moved_past, after_reply, send, read};
@@ -93,6 +94,7 @@ fn send(source: Source, c: Control, array: &[u8], security: &[u8], nack: bool) -
 }
 
 // A byte read. A chip that does not send says nothing and stays.
+#[tactic(auto, unfolding(crate::specs::Sending::read))]
 pub fn read(c: Control, array: &[u8], security: &[u8], nack: bool) -> Answered
     ensures { result ≡ read c array.now security.now nack }
 {

@@ -1,5 +1,6 @@
 // The chips of a line beside each other: the board that they make, and what makes a state well formed.
 #![tactic(auto)]
+
 ghost use Rattle.std.specs.Prelude.{◌≡◌, ℕ, ◌≤◌, ◌<◌};
 ghost use Rattle.base.specs.Fold.{all_below, all_pairs};
 ghost use Rattle.wellformed.specs.Wellformed as one;

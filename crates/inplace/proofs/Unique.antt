@@ -1,5 +1,5 @@
--- The contract of `step_in_place` leaves one outcome. The checker makes no plain reading of a function that is walked by hand, so
--- it is first shown which fact its `ensures` is, by computation, and then that this fact leaves one outcome.
+-- The contract of `step_in_place` leaves one outcome. It is first shown which fact its `ensures` is, by computation, and then
+-- that this fact leaves one outcome.
 use Prim.Native.Nat.{ℕ}
 use mathlib.Core.List.{List}
 use mathlib.Core.Path.{◌≡◌, refl, ap}

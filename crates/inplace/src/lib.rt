@@ -1,5 +1,6 @@
 // The bus state lent to a step and moved on where it stands (paper, "The transcript"): one thin wrapper over the step by value.
 #![tactic(auto)]
+
 ghost use Rattle.inplace.specs.InPlace.{StepsInPlace};
 
 use bus::Bus;

@@ -1,6 +1,7 @@
 // What is wrong with a line of a transcript (paper, "The transcript"): lower-case digits, CR LF and a missing last LF are everybody's
 // first mistakes, and FFFF0900 names none of them.
 #![tactic(auto)]
+
 ghost use Rattle.std.specs.Prelude.{◌≡◌};
 ghost use Rattle.fault.specs.Fault.{is_lower_case, is_blank, digits_in, fault_among, fault_after, fault_of};
 

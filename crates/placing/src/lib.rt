@@ -1,5 +1,6 @@
 // Chips placed on a board: a word that names a place is PART:STRAP, a digit each, as 1:0 or 2:5 (docs/DECISIONS.md, D35).
 #![tactic(auto)]
+
 pub mod layout;
 
 ghost use Rattle.std.specs.Prelude.{◌≡◌, cond};

@@ -1,5 +1,6 @@
 // An event on the line: every chip that it reaches takes it, each on its own shares of the two stores.
 #![tactic(auto)]
+
 ghost use Rattle.std.specs.Prelude.{◌≡◌, true, cond, ◌≤◌, ◌^◌};
 ghost use Rattle.parts.specs.Part.{geometry_of};
 ghost use Rattle.refusal.specs.Checks.{first_of};

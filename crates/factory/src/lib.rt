@@ -1,5 +1,6 @@
 // Chips as they leave the factory: erased, and with a serial number each (paper, "The transcript"; sheets, section 10.1).
 #![tactic(auto)]
+
 ghost use Rattle.std.specs.Prelude.{◌<◌, ◌≤◌, ◌^◌, ◌≡◌, set, length};
 ghost use Rattle.factory.specs.Memory.{erased, arrays_size, registers_size};
 ghost use Rattle.factory.specs.Serial.{marked, serial_byte, serial, serials};

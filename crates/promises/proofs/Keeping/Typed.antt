@@ -156,7 +156,7 @@ control_typed c f bytes =
                         (refl, omega (arith, sound.array_most)),
                         (
                           (refl, omega (arith, sound.security_most)),
-                          ((shown_typed c.shown).1, (refl, ((phase_typed _ c.phase f.place bytes.1.1).1, tt))),
+                          ((shown_typed c.shown).1, (refl, ((phase_typed (geometry_of c.part) c.phase f.place bytes.1.1).1, tt))),
                         ),
                       ),
                     ),

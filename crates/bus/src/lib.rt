@@ -1,5 +1,6 @@
 // The bench's bus: one to four chips on a line, set up, stepped and run (paper, "What the bench plays" and "Events and replies").
 #![tactic(auto)]
+
 ghost use Rattle.std.specs.Prelude.{◌≡◌, ◌≤◌, length, []};
 ghost use Rattle.refusal.specs.Checks.{first_of};
 ghost use Rattle.board.specs.Place.{placed};

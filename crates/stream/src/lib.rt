@@ -3,8 +3,10 @@
 // known, as one over memory, the contracts name them.
 #![tactic(auto)]
 
-ghost use Rattle.std.specs.Prelude.{◌≡◌, ◌≤◌, length};
-ghost use Rattle.stream.specs.Came.{size_of};
+ghost use Rattle.std.specs.Prelude.{◌≡◌, ◌≤◌, length, take, OnOk};
+ghost use Rattle.std.specs.Io.KnownBytes.{Appends, Consumes};
+ghost use Rattle.stream.specs.Came.{size_of, Counts};
+ghost use Rattle.stream.specs.Front.{AppendsFront};
 
 use std::io;
 use std::io::{Error, ErrorKind, Read, Write};
@@ -44,7 +46,8 @@ fn failed(clock: &impl Clock, error: Error) -> Came
 
 // What a read or a write of these bytes has answered.
 fn came_of(clock: &impl Clock, answer: io::Result<usize>, lent: &[u8]) -> Came
-    ensures { size_of result ≤ length lent.now }
+    ensures fits { size_of result ≤ length lent.now }
+    ensures counted { Counts answer (length lent.now) (size_of result) }
 {
     match answer {
         Ok(0) => Came::Ended,
@@ -53,9 +56,11 @@ fn came_of(clock: &impl Clock, answer: io::Result<usize>, lent: &[u8]) -> Came
     }
 }
 
-// One read. Where no room is lent nothing comes, which is not the end: a caller that asks again lends some.
+// One read. Where no room is lent nothing comes, which is not the end: a caller that asks again lends some. What came stands at the
+// room's start, and is gone from what is left to be read.
 pub fn read_some<R: Read>(clock: &impl Clock, from: &mut R, room: &mut [u8]) -> Came
-    ensures { size_of result ≤ length room.new }
+    ensures fits { size_of result ≤ length room.new }
+    ensures bytes { Consumes (R.remaining from.old) (R.remaining from.new) (take (size_of result) room.new) }
 {
     if room.len() == 0 {
         return Came::Nothing;
@@ -67,7 +72,10 @@ pub fn read_some<R: Read>(clock: &impl Clock, from: &mut R, room: &mut [u8]) -> 
 // Writes all of the text, however often a write takes only a part of it. If not, a write failed, and the error tells why; or it took
 // nothing, as none to a file, a pipe or a terminal does. Nothing says that a descriptor ever takes anything, so a count of tries falls,
 // from more than any run uses up.
-pub fn write_on<W: Write>(clock: &impl Clock, to: &mut W, text: &[u8]) -> io::Result<()> {
+pub fn write_on<W: Write>(clock: &impl Clock, to: &mut W, text: &[u8]) -> io::Result<()>
+    ensures all { OnOk result (Appends (W.contents to.old) (W.contents to.new) text.now) }
+    ensures part { AppendsFront (W.contents to.old) (W.contents to.new) text.now }
+{
     let mut done: usize = 0;
     let mut tries = u64::MAX;
     while done < text.len() {

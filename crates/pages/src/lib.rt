@@ -1,6 +1,7 @@
 // The page query: a page of a chip where it lies in its store, not a copy, and the question whether there is one (paper, "The two
 // memories").
 #![tactic(auto)]
+
 ghost use Rattle.std.specs.Prelude.{◌≡◌, ◌+◌, ◌<◌, ◌≤◌, length};
 ghost use Rattle.pages.specs.Part.{PartOf};
 ghost use Rattle.pages.specs.Page.{pages_of, page_exists, page_start, page_verdict, page_shown, Shows};

@@ -1,0 +1,10 @@
+-- Each iteration reads one record more, and less is left; where reading stops, it is the definition's last.
+use mathlib.Core.Path.{◌∙◌, sym}
+use Rattle.image.proofs.loading.Laws.{reads_inside, Reached, left, begun_reached, next_reached, reached_sane, next_less, reached_end}
+use Rattle.image.proofs.loading.scan.Given as goal
+
+abbrev pub invariant-loop-reading : goal.invariant-loop-reading
+invariant-loop-reading l = Reached l.size l.text l.reading
+
+abbrev pub decreases-loop-reading : goal.decreases-loop-reading
+decreases-loop-reading l = left l.text l.reading

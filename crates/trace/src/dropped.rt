@@ -57,6 +57,7 @@ fn dropped_data(kind: Data, span: Span) -> Dropped
     }
 }
 
+#[tactic(auto, unfolding(crate::specs::Dropped::dropped_of))]
 pub fn dropped_of(chip: Chip) -> Dropped
     ensures { result ≡ dropped_of chip }
 {

@@ -161,6 +161,7 @@ fn ending_data(kind: Data, c: Control, span: Span) -> Ending
     }
 }
 
+#[tactic(auto, unfolding(crate::specs::Ending::ending_of))]
 pub fn ending_of(chip: Chip) -> Ending
     ensures { result ≡ ending_of chip }
 {

@@ -1,6 +1,7 @@
 // An event and its answer in words for a person. What an event is for the chips that it meets is defined (`Role`); the words for it are
 // not.
 #![tactic(auto)]
+
 mod about;
 pub mod chips;
 mod draft;

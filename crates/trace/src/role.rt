@@ -140,6 +140,7 @@ fn sent_role(
 }
 
 // `named` is the chip that events 05 to 07 name.
+#[tactic(auto, unfolding(crate::specs::Role::role_of))]
 pub fn role_of(event: Event, named: usize, count: usize, chips: [Chip; PLACES]) -> Role
     ensures { result ≡ role_of event named count chips }
 {

@@ -1,7 +1,6 @@
 -- Every public contract of this crate leaves one outcome: any two that it allows are equal, the bus and each buffer that is
--- lent as the function returns included. The checker makes no plain reading of a function that is walked by hand, so of
--- `converse` and `answer_all` it is first shown which fact the `ensures` is, by computation, and then that this fact leaves one
--- outcome.
+-- lent as the function returns included. Of `converse` and `answer_all` it is first shown which fact the `ensures` is, by
+-- computation, and then that this fact leaves one outcome.
 use Prim.Native.Nat.{ℕ}
 use mathlib.Core.List.{List}
 use mathlib.Core.Path.{◌≡◌, ◌∙◌, refl, ap}

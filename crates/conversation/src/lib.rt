@@ -1,5 +1,6 @@
 // A conversation over a transcript: the lines of a text are answered one after the other by a bus that is lent (paper, "The transcript").
 #![tactic(auto)]
+
 mod pending;
 pub mod tape;
 
@@ -22,6 +23,13 @@ pub struct Heard {
     pub over: bool,
 }
 
+// The bus that is lent, as it stands.
+fn as_lent(bus: &Bus) -> Bus
+    ensures { result ≡ bus.now }
+{
+    *bus
+}
+
 // Answers the text on a tape, as far as `said` has room. A last line that is unfinished is left, unless it cannot become one.
 pub fn converse(
     bus: &mut Bus,
@@ -34,7 +42,7 @@ pub fn converse(
     ensures { (result, bus.new, array.new, security.new, said.new) ≡ converse (text_on tape.now filled) bus.old array.old security.old said.old }
 {
     // Asked once: a step leaves it as it was.
-    let entry = (*bus).entry_verdict(array, security);
+    let entry = as_lent(bus).entry_verdict(array, security);
     // One reader goes through the text, from its first line to its last.
     let text = text_on(tape, filled);
     let mut reader = Reader::new(text);

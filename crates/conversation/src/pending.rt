@@ -68,7 +68,7 @@ fn put(line: [u8; PRINTED_BYTES], said: &mut [u8], written: usize)
     requires { written + printed_bytes ≤ length said.old }
     ensures { said.new ≡ patched written line said.old }
 {
-    bytes::copy(&line, &mut said[written..]);
+    said[written..written + PRINTED_BYTES].copy_from_slice(&line);
 }
 
 // No line stands at the place. What may still become one waits for more.

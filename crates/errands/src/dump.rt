@@ -5,9 +5,9 @@ ghost use Rattle.std.specs.Prelude.{◌<◌, ◌≤◌};
 use base::logic::and;
 use base::number::least;
 use board::Place;
-use libc::STDOUT_FILENO;
 use parts::part::{Part24CSM01, PartAT24CM01};
 use print::byte_text;
+use std::io::Result;
 use std::num::wrapping_add_usize;
 use stream::write_on;
 use transcript::frame::LF;
@@ -90,52 +90,52 @@ fn line_end(at: usize, end: usize) -> usize
 }
 
 // The lines of a page, from an address on.
-fn write_lines(start: usize, page: &[u8]) -> bool {
+fn write_lines(rt: &HostRuntime, start: usize, page: &[u8]) -> Result<()> {
     let mut at: usize = 0;
     while at < page.len() {
         let end = line_end(at, page.len());
-        if !write_on(
-            STDOUT_FILENO,
+        write(
+            rt,
             &dump_line(wrapping_add_usize(start, at), &page[at..end]),
-        ) {
-            return false;
-        }
+        )?;
         at = end;
     }
-    true
+    Ok(())
 }
 
-fn write(text: &[u8]) -> bool {
-    write_on(STDOUT_FILENO, text)
+fn write(rt: &HostRuntime, text: &[u8]) -> Result<()> {
+    write_on(rt, &mut rt.stdout(), text)
 }
 
-fn write_digit(value: u8) -> bool {
+fn write_digit(rt: &HostRuntime, value: u8) -> Result<()> {
     let digits = byte_text(value);
-    write(&[digits[1]])
+    write(rt, &[digits[1]])
 }
 
-fn write_part(part: u8) -> bool {
+fn write_part(rt: &HostRuntime, part: u8) -> Result<()> {
     if part == Part24CSM01::NUMBER {
-        return write(b"24CSM01");
+        return write(rt, b"24CSM01");
     }
     if part == PartAT24CM01::NUMBER {
-        return write(b"AT24CM01");
+        return write(rt, b"AT24CM01");
     }
-    write(b"24CS32")
+    write(rt, b"24CS32")
 }
 
-fn write_chip(chip: u8, place: Place) -> bool {
-    let named = and(write(b"  chip "), write_digit(chip));
-    let parted = and(write(b" ("), write_part(place.part));
-    let strapped = and(write(b" at strap "), write_digit(place.strap));
-    and(named, and(parted, strapped))
+fn write_chip(rt: &HostRuntime, chip: u8, place: Place) -> Result<()> {
+    write(rt, b"  chip ")?;
+    write_digit(rt, chip)?;
+    write(rt, b" (")?;
+    write_part(rt, place.part)?;
+    write(rt, b" at strap ")?;
+    write_digit(rt, place.strap)
 }
 
-fn write_store(store: u8) -> bool {
+fn write_store(rt: &HostRuntime, store: u8) -> Result<()> {
     if store == ARRAY {
-        return write(b"), array\n");
+        return write(rt, b"), array\n");
     }
-    write(b"), security register\n")
+    write(rt, b"), security register\n")
 }
 
 // The address of a page of this size. No page number of a word has more than four digits.
@@ -143,11 +143,18 @@ fn address_of(number: usize, size: usize) -> usize {
     number % WORD * least(size, BYTE)
 }
 
-// The word that asked for the page, its chip and store, then the page. Answers whether all was written.
-pub fn show(word: &[u8], chip: u8, place: Place, store: u8, number: usize, page: &[u8]) -> bool {
-    let headed = and(
-        write(word),
-        and(write_chip(chip, place), write_store(store)),
-    );
-    and(headed, write_lines(address_of(number, page.len()), page))
+// The word that asked for the page, its chip and store, then the page. A failure ends it.
+pub fn show(
+    rt: &HostRuntime,
+    word: &[u8],
+    chip: u8,
+    place: Place,
+    store: u8,
+    number: usize,
+    page: &[u8],
+) -> Result<()> {
+    write(rt, word)?;
+    write_chip(rt, chip, place)?;
+    write_store(rt, store)?;
+    write_lines(rt, address_of(number, page.len()), page)
 }

@@ -1,6 +1,7 @@
 // The errands on the command line: files to be loaded before a run, pages to be shown and files to be saved after it (request E1). The
 // words are gone through once for each step, so that there may be any number of them.
 #![tactic(auto)]
+
 mod dump;
 pub mod telling;
 
@@ -15,12 +16,15 @@ use dump::show;
 use files::{Content, Outcome, prepare, read_whole, write_whole};
 use image::loading::load;
 use image::saving::save;
-use libc::PATH_MAX;
 use lineup::places_of;
 use pages::{page, page_verdict};
 use refusal::{Refusal, Verdict};
 use status::{Status, greatest};
+use std::env::{Env, FillError};
 use telling::{tell_failure, tell_no_page, tell_refusal, tell_too_long};
+
+// The most bytes of a path, as C counts them.
+const PATH_MAX: usize = 4_096;
 
 // The most bytes of a word that is an errand.
 pub const WORD: usize = PATH + PATH_MAX;
@@ -92,17 +96,18 @@ fn is_done(ending: Ending) -> bool {
 }
 
 // What is refused is told, with the line of the file where one is at fault.
-fn ending_of(name: &[u8], line: usize, verdict: Verdict) -> Ending {
+fn ending_of(rt: &HostRuntime, name: &[u8], line: usize, verdict: Verdict) -> Ending {
     match verdict {
         Verdict::Passed => Ending::Done,
         Verdict::Refused(refusal) => {
-            tell_refusal(name, line, refusal);
+            tell_refusal(rt, name, line, refusal);
             Ending::Refused(refusal)
         }
     }
 }
 
 fn load_file(
+    rt: &HostRuntime,
     bus: Bus,
     array: &mut [u8],
     security: &[u8],
@@ -110,48 +115,49 @@ fn load_file(
     path: &[u8],
     text: &mut [u8],
 ) -> Ending {
-    let content = read_whole(path, text);
+    let content = read_whole(rt, path, text);
     match content {
         Content::Whole(size) => {
             let loaded = load(bus, array, security, chip, &text[0..size]);
             let verdict = loaded.verdict;
-            ending_of(path, loaded.line, verdict)
+            ending_of(rt, path, loaded.line, verdict)
         }
         Content::TooLong => {
-            tell_too_long(path, text.len());
+            tell_too_long(rt, path, text.len());
             Ending::Failed
         }
-        Content::Failed(_) => {
-            tell_failure(path);
+        Content::Failed(error) => {
+            tell_failure(rt, path, error);
             Ending::Failed
         }
     }
 }
 
 // Sees before the run that the file can be written to.
-fn prepare_file(path: &[u8]) -> Ending {
-    match prepare(path) {
+fn prepare_file(rt: &HostRuntime, path: &[u8]) -> Ending {
+    match prepare(rt, path) {
         Outcome::Done => Ending::Done,
-        Outcome::Failed(_) => {
-            tell_failure(path);
+        Outcome::Failed(error) => {
+            tell_failure(rt, path, error);
             Ending::Failed
         }
     }
 }
 
 // The text stands at the start of a buffer.
-fn write_file(path: &[u8], buffer: &[u8], written: usize) -> Ending {
+fn write_file(rt: &HostRuntime, path: &[u8], buffer: &[u8], written: usize) -> Ending {
     let end = least(written, buffer.len());
-    match write_whole(path, &buffer[0..end]) {
+    match write_whole(rt, path, &buffer[0..end]) {
         Outcome::Done => Ending::Done,
-        Outcome::Failed(_) => {
-            tell_failure(path);
+        Outcome::Failed(error) => {
+            tell_failure(rt, path, error);
             Ending::Failed
         }
     }
 }
 
 fn save_file(
+    rt: &HostRuntime,
     bus: Bus,
     array: &[u8],
     security: &[u8],
@@ -162,9 +168,9 @@ fn save_file(
     let saved = save(bus, array, security, chip, text);
     let verdict = saved.verdict;
     match verdict {
-        Verdict::Passed => write_file(path, text, saved.written),
+        Verdict::Passed => write_file(rt, path, text, saved.written),
         Verdict::Refused(refusal) => {
-            tell_refusal(path, 0, refusal);
+            tell_refusal(rt, path, 0, refusal);
             Ending::Refused(refusal)
         }
     }
@@ -172,6 +178,7 @@ fn save_file(
 
 // The step of a word that asks to load.
 fn load_step(
+    rt: &HostRuntime,
     step: Step,
     bus: Bus,
     array: &mut [u8],
@@ -183,8 +190,8 @@ fn load_step(
     requires { 7 ≤ length word.now }
 {
     match step {
-        Step::Check => ending_of(word, 0, bus.chip_verdict(array, security, chip)),
-        Step::Load => load_file(bus, array, security, chip, &word[PATH..], text),
+        Step::Check => ending_of(rt, word, 0, bus.chip_verdict(array, security, chip)),
+        Step::Load => load_file(rt, bus, array, security, chip, &word[PATH..], text),
         Step::Prepare => Ending::Done,
         Step::Show => Ending::Done,
         Step::Save => Ending::Done,
@@ -193,6 +200,7 @@ fn load_step(
 
 // The step of a word that asks to save.
 fn save_step(
+    rt: &HostRuntime,
     step: Step,
     bus: Bus,
     array: &[u8],
@@ -204,41 +212,52 @@ fn save_step(
     requires { 7 ≤ length word.now }
 {
     match step {
-        Step::Check => ending_of(word, 0, bus.chip_verdict(array, security, chip)),
+        Step::Check => ending_of(rt, word, 0, bus.chip_verdict(array, security, chip)),
         Step::Load => Ending::Done,
-        Step::Prepare => prepare_file(&word[PATH..]),
+        Step::Prepare => prepare_file(rt, &word[PATH..]),
         Step::Show => Ending::Done,
-        Step::Save => save_file(bus, array, security, chip, &word[PATH..], text),
+        Step::Save => save_file(rt, bus, array, security, chip, &word[PATH..], text),
     }
 }
 
 // Chip, store and page must be there.
-fn check_page(verdict: Verdict, word: &[u8]) -> Ending {
+fn check_page(rt: &HostRuntime, verdict: Verdict, word: &[u8]) -> Ending {
     match verdict {
         Verdict::Passed => Ending::Done,
         Verdict::Refused(refusal) => {
-            tell_no_page(word, refusal);
+            tell_no_page(rt, word, refusal);
             Ending::Refused(refusal)
         }
     }
 }
 
 // The page of a chip that was seen to be there.
-fn show_page(bus: Bus, chip: usize, store: u8, number: usize, word: &[u8], shown: &[u8]) -> Ending {
+fn show_page(
+    rt: &HostRuntime,
+    bus: Bus,
+    chip: usize,
+    store: u8,
+    number: usize,
+    word: &[u8],
+    shown: &[u8],
+) -> Ending {
     if PLACES <= chip {
         return Ending::Done;
     }
     let chips = bus.chips;
     let places = places_of(chips);
-    if show(word, chip as u8, places[chip], store, number, shown) {
-        return Ending::Done;
+    match show(rt, word, chip as u8, places[chip], store, number, shown) {
+        Ok(()) => Ending::Done,
+        Err(error) => {
+            tell_failure(rt, b"standard output", error);
+            Ending::Failed
+        }
     }
-    tell_failure(b"standard output");
-    Ending::Failed
 }
 
 // The step of a word that asks for a page.
 fn page_step<'a>(
+    rt: &HostRuntime,
     step: Step,
     bus: Bus,
     array: &'a [u8],
@@ -250,6 +269,7 @@ fn page_step<'a>(
 ) -> Ending {
     match step {
         Step::Check => check_page(
+            rt,
             page_verdict(bus, array, security, chip, store, number),
             word,
         ),
@@ -257,7 +277,7 @@ fn page_step<'a>(
         Step::Prepare => Ending::Done,
         Step::Show => {
             let shown = page(bus, array, security, chip, store, number);
-            show_page(bus, chip, store, number, word, shown)
+            show_page(rt, bus, chip, store, number, word, shown)
         }
         Step::Save => Ending::Done,
     }
@@ -265,6 +285,7 @@ fn page_step<'a>(
 
 // The step of a word that asks for no file.
 fn other_step<'a>(
+    rt: &HostRuntime,
     step: Step,
     bus: Bus,
     array: &'a [u8],
@@ -273,63 +294,104 @@ fn other_step<'a>(
 ) -> Ending {
     match page_asked(word) {
         PageAsked::Page(chip, store, number) => page_step(
-            step, bus, array, security, chip, store, number, word,
+            rt, step, bus, array, security, chip, store, number, word,
         ),
         PageAsked::Unknown => Ending::Done,
     }
 }
 
 // The step of any word.
+fn step_of(
+    rt: &HostRuntime,
+    step: Step,
+    word: &[u8],
+    bus: Bus,
+    array: &mut [u8],
+    security: &[u8],
+    text: &mut [u8],
+) -> Ending {
+    match asked_by(word) {
+        Asked::Load(chip) => load_step(rt, step, bus, array, security, chip, word, text),
+        Asked::Save(chip) => save_step(rt, step, bus, array, security, chip, word, text),
+        Asked::Unknown => other_step(rt, step, bus, array, security, word),
+    }
+}
+
+// The step of the word at a place, if there is one. A word that is longer than any errand is none.
 fn step_at(
+    rt: &HostRuntime,
     step: Step,
     i: usize,
     bus: Bus,
     array: &mut [u8],
     security: &[u8],
     text: &mut [u8],
-) -> Ending {
+) -> Option<Ending> {
     let mut space = blank_word();
-    let n = os::arg(i, &mut space);
-    let word = &space[..n];
-    match asked_by(word) {
-        Asked::Load(chip) => load_step(step, bus, array, security, chip, word, text),
-        Asked::Save(chip) => save_step(step, bus, array, security, chip, word, text),
-        Asked::Unknown => other_step(step, bus, array, security, word),
+    match rt.arg(i, &mut space) {
+        Ok(n) => {
+            let word = &space[..n];
+            Some(step_of(rt, step, word, bus, array, security, text))
+        }
+        Err(FillError::TooLong) => Some(Ending::Done),
+        Err(FillError::NotPresent) => None,
     }
 }
 
 // One step of all words, in their order. Before the run the first that is not done ends it.
-fn step_all(step: Step, bus: Bus, array: &mut [u8], security: &[u8], text: &mut [u8]) -> Ending {
-    let count = os::arg_count();
+fn step_all(
+    rt: &HostRuntime,
+    step: Step,
+    bus: Bus,
+    array: &mut [u8],
+    security: &[u8],
+    text: &mut [u8],
+) -> Ending {
     let mut ending = Ending::Done;
-    for i in OWN..count {
-        let next = step_at(step, i, bus, array, security, text);
-        if !is_done(next) {
-            if is_before(step) {
-                return next;
+    for i in OWN..usize::MAX {
+        match step_at(rt, step, i, bus, array, security, text) {
+            Some(next) => {
+                if !is_done(next) {
+                    if is_before(step) {
+                        return next;
+                    }
+                    ending = next;
+                }
             }
-            ending = next;
+            None => return ending,
         }
     }
     ending
 }
 
 // Before a run: nothing is to be played unless all is done.
-pub fn begin(bus: Bus, array: &mut [u8], security: &[u8], text: &mut [u8]) -> Ending {
-    let checked = step_all(Step::Check, bus, array, security, text);
+pub fn begin(
+    rt: &HostRuntime,
+    bus: Bus,
+    array: &mut [u8],
+    security: &[u8],
+    text: &mut [u8],
+) -> Ending {
+    let checked = step_all(rt, Step::Check, bus, array, security, text);
     if !is_done(checked) {
         return checked;
     }
-    let loaded = step_all(Step::Load, bus, array, security, text);
+    let loaded = step_all(rt, Step::Load, bus, array, security, text);
     if !is_done(loaded) {
         return loaded;
     }
-    step_all(Step::Prepare, bus, array, security, text)
+    step_all(rt, Step::Prepare, bus, array, security, text)
 }
 
 // After it. The state is asked for its board alone, which no event changes.
-pub fn finish(bus: Bus, array: &mut [u8], security: &[u8], text: &mut [u8]) -> Status {
-    let shown = step_all(Step::Show, bus, array, security, text);
-    let saved = step_all(Step::Save, bus, array, security, text);
+pub fn finish(
+    rt: &HostRuntime,
+    bus: Bus,
+    array: &mut [u8],
+    security: &[u8],
+    text: &mut [u8],
+) -> Status {
+    let shown = step_all(rt, Step::Show, bus, array, security, text);
+    let saved = step_all(rt, Step::Save, bus, array, security, text);
     greatest(status_of(shown), status_of(saved))
 }

@@ -10,9 +10,9 @@ use factory::{erased_arrays, erased_registers};
 use files::{Content, read_whole};
 use image::loading::load;
 use image::saving::{Saved, save};
-use libc::STDOUT_FILENO;
 use placing::layout::Board;
 use refusal::{Verdict, status_of};
+use std::io::Print;
 
 // The most bytes of a file, and of what is saved.
 const TEXT: usize = 524_288;
@@ -44,51 +44,52 @@ fn blank_text() -> [u8; TEXT]
     [0u8; TEXT]
 }
 
-fn tell(name: &[u8], what: &[u8]) {
-    io::write_all(STDOUT_FILENO, name);
-    io::write_all(STDOUT_FILENO, what);
+fn say(rt: &HostRuntime, text: &[u8]) {
+    let _ = rt.write_all(text);
 }
 
-fn missing(path: &[u8]) -> Known
+fn tell(rt: &HostRuntime, name: &[u8], what: &[u8]) {
+    say(rt, name);
+    say(rt, what);
+}
+
+fn missing(rt: &HostRuntime, path: &[u8]) -> Known
     ensures { result.size ≡ 0 }
 {
-    tell(path, b": missing, or too long\n");
+    tell(rt, path, b": missing, or too long\n");
     Known {
         known: false,
         size: 0,
     }
 }
 
-fn read_text(path: &[u8], into: &mut [u8]) -> Known
+fn read_text(rt: &HostRuntime, path: &[u8], into: &mut [u8]) -> Known
     ensures { result.size ≤ length into.new }
 {
-    let content = read_whole(path, into);
+    let content = read_whole(rt, path, into);
     match content {
         Content::Whole(size) => Known { known: true, size },
-        Content::TooLong => missing(path),
-        Content::Failed(_) => missing(path),
+        Content::TooLong => missing(rt, path),
+        Content::Failed(_) => missing(rt, path),
     }
 }
 
 // Whether a number is the one expected; one that is not is told.
-fn is_same(name: &[u8], what: &[u8], expected: usize, answered: usize) -> bool {
+fn is_same(rt: &HostRuntime, name: &[u8], what: &[u8], expected: usize, answered: usize) -> bool {
     if expected == answered {
         return true;
     }
-    tell(name, what);
-    io::print_decimal(STDOUT_FILENO, expected as u64);
-    io::write_all(STDOUT_FILENO, b" expected, ");
-    io::print_decimal(STDOUT_FILENO, answered as u64);
-    io::write_all(STDOUT_FILENO, b" answered\n");
+    tell(rt, name, what);
+    let _ = println!(rt; "{expected} expected, {answered} answered");
     false
 }
 
 // A file that is refused stores nothing.
-fn stays_erased(name: &[u8], array: &[u8]) -> bool {
+fn stays_erased(rt: &HostRuntime, name: &[u8], array: &[u8]) -> bool {
     let mut i: usize = 0;
     while i < array.len() {
         if array[i] != ERASED {
-            tell(name, b": array: changed, though the file is refused\n");
+            tell(rt, name, b": array: changed, though the file is refused\n");
             return false;
         }
         i += 1;
@@ -111,6 +112,7 @@ fn save_in(bus: Bus, array: &[u8], security: &[u8], text: &mut [u8], room: usize
 
 // Whether a buffer without room for the text is refused.
 fn is_too_short(
+    rt: &HostRuntime,
     name: &[u8],
     bus: Bus,
     array: &[u8],
@@ -122,26 +124,26 @@ fn is_too_short(
     let verdict = saved.verdict;
     let number = status_of(verdict) as usize;
     and(
-        is_same(name, b": short buffer, number: ", SHORT_TEXT, number),
-        is_same(name, b": short buffer, written: ", 0, saved.written),
+        is_same(rt, name, b": short buffer, number: ", SHORT_TEXT, number),
+        is_same(rt, name, b": short buffer, written: ", 0, saved.written),
     )
 }
 
 // Whether the text in a buffer is the whole one; the line at which it differs is told.
-fn is_text(name: &[u8], text: &[u8], written: usize, whole: &[u8]) -> bool {
+fn is_text(rt: &HostRuntime, name: &[u8], text: &[u8], written: usize, whole: &[u8]) -> bool {
     let end = end_in(text, written);
     let line = other_line(&text[0..end], whole);
     if line == 0 {
         return true;
     }
-    tell(name, b": text: line ");
-    io::print_decimal(STDOUT_FILENO, line);
-    io::write_all(STDOUT_FILENO, b" of what is saved differs\n");
+    tell(rt, name, b": text: line ");
+    let _ = println!(rt; "{line} of what is saved differs");
     false
 }
 
 // Saves into a buffer that has just room for the text, and into one that is a byte shorter.
 fn saves_as(
+    rt: &HostRuntime,
     name: &[u8],
     bus: Bus,
     array: &[u8],
@@ -152,14 +154,20 @@ fn saves_as(
     let size = whole.len();
     let saved = save_in(bus, array, security, text, size);
     let verdict = saved.verdict;
-    if !is_same(name, b": text, number: ", 0, status_of(verdict) as usize) {
+    if !is_same(
+        rt,
+        name,
+        b": text, number: ",
+        0,
+        status_of(verdict) as usize,
+    ) {
         return false;
     }
-    if !is_text(name, text, saved.written, whole) {
+    if !is_text(rt, name, text, saved.written, whole) {
         return false;
     }
     let room = if 0 < size { size - 1 } else { 0 };
-    is_too_short(name, bus, array, security, text, room)
+    is_too_short(rt, name, bus, array, security, text, room)
 }
 
 // The name with its ending, and how many bytes it has.
@@ -167,24 +175,27 @@ fn put_path(name: &[u8], path: &mut [u8]) -> usize
     requires { length name.now + 5 ≤ length path.old }
     ensures { result ≡ length name.now + 5 }
 {
-    let n = bytes::copy(name, path);
-    bytes::copy(b".want", &mut path[n..]);
-    n + ENDING
+    let n = name.len();
+    let end = n + ENDING;
+    path[0..n].copy_from_slice(name);
+    path[n..end].copy_from_slice(b".want");
+    end
 }
 
-fn read_want(name: &[u8], into: &mut [u8]) -> Known
+fn read_want(rt: &HostRuntime, name: &[u8], into: &mut [u8]) -> Known
     ensures { result.size ≤ length into.new }
 {
     if PATH - ENDING < name.len() {
-        return missing(name);
+        return missing(rt, name);
     }
     let mut path = [0u8; PATH];
     let end = put_path(name, &mut path);
-    read_text(&path[0..end], into)
+    read_text(rt, &path[0..end], into)
 }
 
 // Whether what was loaded is saved as recorded.
 fn saves(
+    rt: &HostRuntime,
     name: &[u8],
     bus: Bus,
     array: &[u8],
@@ -192,18 +203,19 @@ fn saves(
     whole: &mut [u8],
     text: &mut [u8],
 ) -> bool {
-    let want = read_want(name, text);
+    let want = read_want(rt, name, text);
     if !want.known {
         return false;
     }
     let size = want.size;
     let filled = fill_in(&text[0..size], array.len(), whole);
     let end = end_in(whole, filled);
-    saves_as(name, bus, array, security, &whole[0..end], text)
+    saves_as(rt, name, bus, array, security, &whole[0..end], text)
 }
 
 // Whether a file is answered as expected, and does to the array what it should.
 fn loads(
+    rt: &HostRuntime,
     expected: Expected,
     name: &[u8],
     bus: Bus,
@@ -212,7 +224,7 @@ fn loads(
     text: &mut [u8],
     spare: &mut [u8],
 ) -> bool {
-    let file = read_text(name, text);
+    let file = read_text(rt, name, text);
     if !file.known {
         return false;
     }
@@ -220,19 +232,20 @@ fn loads(
     let loaded = load(bus, array, security, CHIP, &text[0..size]);
     let verdict = loaded.verdict;
     let number = status_of(verdict) as usize;
-    let same_number = is_same(name, b": number: ", expected.number, number);
-    let same_line = is_same(name, b": line: ", expected.line, loaded.line);
+    let same_number = is_same(rt, name, b": number: ", expected.number, number);
+    let same_line = is_same(rt, name, b": line: ", expected.line, loaded.line);
     if !and(same_number, same_line) {
         return false;
     }
     match verdict {
-        Verdict::Passed => saves(name, bus, array, security, text, spare),
-        Verdict::Refused(_) => stays_erased(name, array),
+        Verdict::Passed => saves(rt, name, bus, array, security, text, spare),
+        Verdict::Refused(_) => stays_erased(rt, name, array),
     }
 }
 
 // On a fresh bus, in memories of the board's size.
 fn plays(
+    rt: &HostRuntime,
     expected: Expected,
     name: &[u8],
     board: Board,
@@ -246,9 +259,9 @@ fn plays(
     let set_up = Bus::set_up(count, places, array, security);
     let verdict = set_up.verdict;
     match verdict {
-        Verdict::Passed => loads(expected, name, set_up.bus, array, security, text, spare),
+        Verdict::Passed => loads(rt, expected, name, set_up.bus, array, security, text, spare),
         Verdict::Refused(_) => {
-            tell(name, b": there is no such part\n");
+            tell(rt, name, b": there is no such part\n");
             false
         }
     }
@@ -261,6 +274,7 @@ fn board_of(part: u8) -> Board {
 
 // Lends the board memories of its size.
 fn fit(
+    rt: &HostRuntime,
     expected: Expected,
     name: &[u8],
     array: &mut [u8],
@@ -272,6 +286,7 @@ fn fit(
     let array_end = board.array_end(array.len());
     let security_end = board.security_end(security.len());
     plays(
+        rt,
         expected,
         name,
         board,
@@ -282,18 +297,18 @@ fn fit(
     )
 }
 
-fn tell_form(word: &[u8]) {
-    tell(word, b": not PART:NN:LLLLL:NAME\n");
+fn tell_form(rt: &HostRuntime, word: &[u8]) {
+    tell(rt, word, b": not PART:NN:LLLLL:NAME\n");
 }
 
 // Whether the file of a word is answered as the word says.
-pub fn as_recorded(word: &[u8]) -> bool {
+pub fn as_recorded(rt: &HostRuntime, word: &[u8]) -> bool {
     if word.len() <= NAME {
-        tell_form(word);
+        tell_form(rt, word);
         return false;
     }
     if !has_form(word) {
-        tell_form(word);
+        tell_form(rt, word);
         return false;
     }
     let expected = expected_by(word);
@@ -302,6 +317,7 @@ pub fn as_recorded(word: &[u8]) -> bool {
     let mut text = blank_text();
     let mut spare = blank_text();
     fit(
+        rt,
         expected,
         &word[NAME..],
         &mut array,

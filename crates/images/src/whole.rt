@@ -74,7 +74,9 @@ fn put(line: &[u8], whole: &mut [u8], at: usize) -> usize {
     if whole.len() - at < line.len() {
         return at;
     }
-    at + bytes::copy(line, &mut whole[at..])
+    let end = at + line.len();
+    whole[at..end].copy_from_slice(line);
+    end
 }
 
 // Copies so many bytes of the recording.

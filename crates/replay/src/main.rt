@@ -1,12 +1,14 @@
 // Plays recorded transcripts, each on a fresh bus, and compares the answers with those that are recorded. The words on the command
 // line are the recordings' names; before a name stand the words of its board, PART:STRAP, and without any it is the paper's.
 #![tactic(auto)]
+
 mod recording;
 
-use libc::STDOUT_FILENO;
 use placing::layout::Board;
 use placing::{NamedPlace, place_named};
 use recording::as_recorded;
+use std::env::{Env, FillError};
+use std::io;
 
 // The program's own name is the first word.
 const OWN: usize = 1;
@@ -34,7 +36,7 @@ fn one_more(count: u64) -> u64 {
 }
 
 // A word is a chip of the next board, or the name of a recording to be played on it.
-fn with_word(tally: Tally, word: &[u8]) -> Tally {
+fn with_word(rt: &HostRuntime, tally: Tally, word: &[u8]) -> Tally {
     let board = tally.board;
     let played = tally.played;
     let differ = tally.differ;
@@ -45,7 +47,7 @@ fn with_word(tally: Tally, word: &[u8]) -> Tally {
             differ,
         },
         NamedPlace::Unknown => {
-            let same = as_recorded(word, board_of(board));
+            let same = as_recorded(rt, word, board_of(board));
             let more = if same { differ } else { one_more(differ) };
             Tally {
                 board: Board::bare(),
@@ -56,23 +58,22 @@ fn with_word(tally: Tally, word: &[u8]) -> Tally {
     }
 }
 
-fn main() {
-    let count = os::arg_count();
+// A word that is too long names no recording.
+fn main(rt: HostRuntime) -> io::Result<()> {
     let mut space = [0u8; WORD];
-    let word: &mut [u8] = &mut space;
     let mut tally = Tally {
         board: Board::bare(),
         played: 0,
         differ: 0,
     };
-    let mut i = OWN;
-    while i < count {
-        let n = os::arg(i, word);
-        tally = with_word(tally, &word[..n]);
-        i += 1;
+    for i in OWN..usize::MAX {
+        match rt.arg(i, &mut space) {
+            Ok(n) => tally = with_word(&rt, tally, &space[..n]),
+            Err(FillError::TooLong) => tally = with_word(&rt, tally, b""),
+            Err(FillError::NotPresent) => break,
+        }
     }
-    io::print_decimal(STDOUT_FILENO, tally.played);
-    io::write_all(STDOUT_FILENO, b" played, ");
-    io::print_decimal(STDOUT_FILENO, tally.differ);
-    io::write_all(STDOUT_FILENO, b" differ\n");
+    let played = tally.played;
+    let differ = tally.differ;
+    println!(rt; "{played} played, {differ} differ")
 }

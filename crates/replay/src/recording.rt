@@ -5,10 +5,11 @@ use base::number::least;
 use bus::Bus;
 use conversation::answer_all;
 use factory::{erased_arrays, erased_registers, mark_serials};
-use libc::STDOUT_FILENO;
+use files::read_whole;
 use placing::layout::Board;
 use print::{PRINTED_BYTES, closing};
 use refusal::{Verdict, number_of};
+use std::io::Print;
 
 // A transcript, and the answers to it, have fewer bytes than these.
 const TEXT: usize = 16_384;
@@ -27,19 +28,22 @@ struct Content {
     size: usize,
 }
 
-fn read_file(path: &[u8], into: &mut [u8]) -> Content {
-    let fd = os::open_read(path);
-    if fd < 0 {
-        return Content {
-            known: false,
-            size: 0,
-        };
-    }
-    let size = io::read_full(fd, into);
-    libc::close(fd);
+// A file that cannot be read.
+fn unknown() -> Content {
     Content {
-        known: size < into.len(),
-        size,
+        known: false,
+        size: 0,
+    }
+}
+
+fn read_file(rt: &HostRuntime, path: &[u8], into: &mut [u8]) -> Content {
+    match read_whole(rt, path, into) {
+        files::Content::Whole(size) => Content {
+            known: size < into.len(),
+            size,
+        },
+        files::Content::TooLong => unknown(),
+        files::Content::Failed(_) => unknown(),
     }
 }
 
@@ -48,21 +52,20 @@ fn put_path(name: &[u8], path: &mut [u8]) -> usize
     requires { length name.now + 8 ≤ length path.old }
     ensures { result ≡ length name.now + 8 }
 {
-    let n = bytes::copy(name, path);
-    bytes::copy(b".answers", &mut path[n..]);
-    n + ENDING
+    let n = name.len();
+    let end = n + ENDING;
+    path[0..n].copy_from_slice(name);
+    path[n..end].copy_from_slice(b".answers");
+    end
 }
 
-fn read_answers(name: &[u8], into: &mut [u8]) -> Content {
+fn read_answers(rt: &HostRuntime, name: &[u8], into: &mut [u8]) -> Content {
     if PATH - ENDING < name.len() {
-        return Content {
-            known: false,
-            size: 0,
-        };
+        return unknown();
     }
     let mut path = [0u8; PATH];
     let end = put_path(name, &mut path);
-    read_file(&path[0..end], into)
+    read_file(rt, &path[0..end], into)
 }
 
 // The answers to a transcript on a fresh bus, and how many bytes they have; a board that is refused answers once.
@@ -84,7 +87,7 @@ fn answers_on(
         Verdict::Refused(refusal) => {
             let line = closing(number_of(refusal));
             if PRINTED_BYTES <= said.len() {
-                bytes::copy(&line, said);
+                said[0..PRINTED_BYTES].copy_from_slice(&line);
             }
             PRINTED_BYTES
         }
@@ -112,22 +115,26 @@ fn line_number(place: usize) -> u64 {
     (place / PRINTED_BYTES) as u64 + 1
 }
 
-fn tell(name: &[u8], what: &[u8]) {
-    io::write_all(STDOUT_FILENO, name);
-    io::write_all(STDOUT_FILENO, what);
+fn say(rt: &HostRuntime, text: &[u8]) {
+    let _ = rt.write_all(text);
+}
+
+fn tell(rt: &HostRuntime, name: &[u8], what: &[u8]) {
+    say(rt, name);
+    say(rt, what);
 }
 
 // Whether the answers are those that are recorded; a difference names the file and the line.
-fn compare(name: &[u8], said: &[u8], recorded: &[u8]) -> bool {
+fn compare(rt: &HostRuntime, name: &[u8], said: &[u8], recorded: &[u8]) -> bool {
     let place = same_until(said, recorded);
     if place == said.len() {
         if place == recorded.len() {
             return true;
         }
     }
-    tell(name, b".answers: line ");
-    io::print_decimal(STDOUT_FILENO, line_number(place));
-    io::write_all(STDOUT_FILENO, b" differs\n");
+    let line = line_number(place);
+    say(rt, name);
+    let _ = println!(rt; ".answers: line {line} differs");
     false
 }
 
@@ -153,23 +160,30 @@ fn answers_in_part(
 }
 
 // What was said fills one buffer so far, and what is recorded the other.
-fn compare_parts(name: &[u8], said: &[u8], written: usize, recorded: &[u8], size: usize) -> bool {
+fn compare_parts(
+    rt: &HostRuntime,
+    name: &[u8],
+    said: &[u8],
+    written: usize,
+    recorded: &[u8],
+    size: usize,
+) -> bool {
     let said_end = least(written, said.len());
     let recorded_end = least(size, recorded.len());
-    compare(name, &said[0..said_end], &recorded[0..recorded_end])
+    compare(rt, name, &said[0..said_end], &recorded[0..recorded_end])
 }
 
-pub fn as_recorded(name: &[u8], board: Board) -> bool {
+pub fn as_recorded(rt: &HostRuntime, name: &[u8], board: Board) -> bool {
     let mut tape = [0u8; TEXT];
     let mut recorded = [0u8; ANSWERS];
-    let text = read_file(name, &mut tape);
-    let answers = read_answers(name, &mut recorded);
+    let text = read_file(rt, name, &mut tape);
+    let answers = read_answers(rt, name, &mut recorded);
     if !text.known {
-        tell(name, b": missing, or too long\n");
+        tell(rt, name, b": missing, or too long\n");
         return false;
     }
     if !answers.known {
-        tell(name, b".answers: missing, or too long\n");
+        tell(rt, name, b".answers: missing, or too long\n");
         return false;
     }
     let mut array = erased_arrays();
@@ -183,5 +197,5 @@ pub fn as_recorded(name: &[u8], board: Board) -> bool {
         text.size,
         &mut said,
     );
-    compare_parts(name, &said, written, &recorded, answers.size)
+    compare_parts(rt, name, &said, written, &recorded, answers.size)
 }

@@ -4,6 +4,7 @@ use asking::page::{PageAsked, page_asked};
 use asking::status::{StatusAsked, status_asked};
 use asking::trace::asks_trace;
 use asking::{Asked, asked_by};
+use base::number::least;
 use board::{PLACES, Place};
 use errands::telling::{say, tell_too_long};
 use errands::{WORD, blank_word};
@@ -11,6 +12,9 @@ use placing::layout::Board;
 use placing::{NamedPlace, place_named};
 use print::byte_text;
 use status::{Status, number_of};
+use std::env::{Env, FillError};
+use std::fs::OpenOptions;
+use std::io::{Cursor, Result, Write};
 use stream::write_on;
 use transcript::frame::LF;
 
@@ -76,13 +80,14 @@ fn word_of(word: &[u8]) -> Word {
     }
 }
 
-fn word_at(i: usize) -> Word {
+// The word at a place, if there is one.
+fn word_at(rt: &HostRuntime, i: usize) -> Option<Word> {
     let mut space = blank_word();
-    let n = os::arg(i, &mut space);
-    if os::errno() != 0 {
-        return Word::TooLong;
+    match rt.arg(i, &mut space) {
+        Ok(n) => Some(word_of(&space[..n])),
+        Err(FillError::TooLong) => Some(Word::TooLong),
+        Err(FillError::NotPresent) => None,
     }
-    word_of(&space[..n])
 }
 
 // A word that is none. The first such word is kept.
@@ -164,17 +169,25 @@ fn board_of(board: Board) -> Board {
     board
 }
 
-pub fn read_arguments() -> Arguments {
-    let count = os::arg_count();
+// What all words ask for. The board is the one that they name, or bare.
+fn read_words(rt: &HostRuntime) -> Arguments {
     let mut arguments = Arguments {
         words: Words::Known,
         board: Board::bare(),
         traced: false,
         told: Told::Nowhere,
     };
-    for i in OWN..count {
-        arguments = with_word(arguments, word_at(i), i);
+    for i in OWN..usize::MAX {
+        match word_at(rt, i) {
+            Some(word) => arguments = with_word(arguments, word, i),
+            None => return arguments,
+        }
     }
+    arguments
+}
+
+pub fn read_arguments(rt: &HostRuntime) -> Arguments {
+    let arguments = read_words(rt);
     let words = arguments.words;
     let told = arguments.told;
     Arguments {
@@ -186,31 +199,51 @@ pub fn read_arguments() -> Arguments {
 }
 
 // Says the word at a place, and what is wrong with it.
-fn say_of(i: usize, fault: &[u8]) {
+fn say_of(rt: &HostRuntime, i: usize, fault: &[u8]) {
     let mut space = blank_word();
-    let n = os::arg(i, &mut space);
-    say(b"bench: ");
-    say(&space[..n]);
-    say(fault);
+    say(rt, b"bench: ");
+    match rt.arg(i, &mut space) {
+        Ok(n) => say(rt, &space[..n]),
+        Err(_) => {}
+    }
+    say(rt, fault);
 }
 
-pub fn tell_words(words: Words) -> Status {
+pub fn tell_words(rt: &HostRuntime, words: Words) -> Status {
     match words {
         Words::Known => {}
-        Words::Unknown(i) => say_of(i, b": no such word (./bench --help lists them)\n"),
-        Words::FifthChip(i) => say_of(i, b": a fifth chip, and a board has one to four\n"),
-        Words::TooLong => tell_too_long(b"a word", WORD),
+        Words::Unknown(i) => say_of(rt, i, b": no such word (./bench --help lists them)\n"),
+        Words::FifthChip(i) => say_of(rt, i, b": a fifth chip, and a board has one to four\n"),
+        Words::TooLong => tell_too_long(rt, b"a word", WORD),
     }
     Status::NoWord
 }
 
+// A descriptor's name among files has at most so many bytes.
+const NAME: usize = 32;
+
+// Writes on a descriptor that the program was started with. std reaches it by its name among files alone.
+fn write_on_descriptor(rt: &HostRuntime, descriptor: u8, text: &[u8]) -> Result<()> {
+    let mut name = Cursor::new([0u8; NAME]);
+    write!(name, "/proc/self/fd/{descriptor}")?;
+    let n = least(name.position() as usize, NAME);
+    let bytes = name.into_inner();
+    match std::str::from_utf8(&bytes[..n]) {
+        Ok(path) => {
+            let mut file = OpenOptions::new().append(true).open(rt, path)?;
+            write_on(rt, &mut file, text)
+        }
+        Err(_) => Ok(()),
+    }
+}
+
 // The status as a digit, then LF.
-pub fn tell_status(told: Told, status: Status) {
+pub fn tell_status(rt: &HostRuntime, told: Told, status: Status) {
     match told {
         Told::Nowhere => {}
         Told::On(descriptor) => {
             let digits = byte_text(number_of(status));
-            write_on(descriptor as i32, &[digits[1], LF]);
+            let _ = write_on_descriptor(rt, descriptor, &[digits[1], LF]);
         }
     }
 }

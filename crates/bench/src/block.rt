@@ -7,9 +7,9 @@ use base::number::least;
 use bus::Bus;
 use conversation::Heard;
 use conversation::tape::keep_rest;
-use libc::{STDIN_FILENO, STDOUT_FILENO};
 use print::{PRINTED_BYTES, closing};
 use status::Status;
+use std::io::{Error, Result};
 use std::num::wrapping_add_u64;
 use stream::{Came, read_some, write_on};
 use transcript::frame::{FRAME_BYTES, MALFORMED};
@@ -38,46 +38,48 @@ fn last(left: u64, lines: u64, status: Status) -> Block
     }
 }
 
-// The line that stands for a refused run. Answers whether it was written.
-pub fn close(traced: bool, number: u8) -> bool {
+// The line that stands for a refused run.
+pub fn close(rt: &HostRuntime, traced: bool, number: u8) -> Result<()> {
     if traced {
-        return write_closing(&closing(number), b"  refused: nothing is played\n");
+        return write_closing(rt, &closing(number), b"  refused: nothing is played\n");
     }
-    write_on(STDOUT_FILENO, &closing(number))
+    write_on(rt, &mut rt.stdout(), &closing(number))
 }
 
 // Standard input or output has failed: what was heard last may not have been answered.
-fn broken(what: &[u8], left: u64, lines: u64) -> Block
+fn broken(rt: &HostRuntime, what: &[u8], error: Error, left: u64, lines: u64) -> Block
     ensures { result.more ≡ true → result.left < left }
 {
-    tell_broken(what, lines);
+    tell_broken(rt, what, error, lines);
     last(left, lines, Status::Broken)
 }
 
 // The line that ends a malformed run.
-fn close_malformed(traced: bool) -> bool {
+fn close_malformed(rt: &HostRuntime, traced: bool) -> Result<()> {
     if traced {
-        return write_malformed(&closing(MALFORMED));
+        return write_malformed(rt, &closing(MALFORMED));
     }
-    write_on(STDOUT_FILENO, &closing(MALFORMED))
+    write_on(rt, &mut rt.stdout(), &closing(MALFORMED))
 }
 
 // The text has ended: a line that was begun is malformed.
-fn ended(begun: &[u8], traced: bool, left: u64, lines: u64) -> Block
+fn ended(rt: &HostRuntime, begun: &[u8], traced: bool, left: u64, lines: u64) -> Block
     ensures { result.more ≡ true → result.left < left }
 {
     if begun.len() == 0 {
         return last(left, lines, Status::Answered);
     }
-    if !close_malformed(traced) {
-        return broken(b"standard output", left, lines);
+    match close_malformed(rt, traced) {
+        Ok(()) => {
+            tell_malformed(rt, begun, wrapping_add_u64(lines, 1));
+            last(left, lines, Status::Refused)
+        }
+        Err(error) => broken(rt, b"standard output", error, left, lines),
     }
-    tell_malformed(begun, wrapping_add_u64(lines, 1));
-    last(left, lines, Status::Refused)
 }
 
 // One read behind the text that was kept. Where nothing came yet, that text is the block again.
-pub fn read_block(tape: &mut [u8], kept: usize, left: u64, lines: u64) -> Block
+pub fn read_block(rt: &HostRuntime, tape: &mut [u8], kept: usize, left: u64, lines: u64) -> Block
     ensures { result.more ≡ true → result.left < left }
 {
     if left == 0 {
@@ -88,7 +90,7 @@ pub fn read_block(tape: &mut [u8], kept: usize, left: u64, lines: u64) -> Block
     }
     let traced = is_traced(tape);
     let room: &mut [u8] = &mut tape[kept..];
-    let came = read_some(STDIN_FILENO, room);
+    let came = read_some(rt, &mut rt.stdin(), room);
     match came {
         Came::Bytes(got) => Block {
             more: true,
@@ -104,8 +106,8 @@ pub fn read_block(tape: &mut [u8], kept: usize, left: u64, lines: u64) -> Block
             lines,
             status: Status::Answered,
         },
-        Came::Ended => ended(&tape[0..kept], traced, left, lines),
-        Came::Failed => broken(b"standard input", left, lines),
+        Came::Ended => ended(rt, &tape[0..kept], traced, left, lines),
+        Came::Failed(error) => broken(rt, b"standard input", error, left, lines),
     }
 }
 
@@ -118,15 +120,16 @@ fn last_line(tape: &[u8], filled: usize, written: usize) -> &[u8] {
 }
 
 // A malformed line has ended the run.
-fn ended_by(block: Block, lines: u64, written: usize, tape: &[u8]) -> Block
+fn ended_by(rt: &HostRuntime, block: Block, lines: u64, written: usize, tape: &[u8]) -> Block
     ensures { result.more ≡ true → result.left < block.left }
 {
-    tell_malformed(last_line(tape, block.filled, written), lines);
+    tell_malformed(rt, last_line(tape, block.filled, written), lines);
     last(block.left, lines, Status::Refused)
 }
 
 // Writes the answers, keeps what is left of the text, and reads on, unless a malformed line has ended the run.
 pub fn next_block(
+    rt: &HostRuntime,
     block: Block,
     heard: Heard,
     before: Bus,
@@ -138,18 +141,18 @@ pub fn next_block(
 {
     let written = least(heard.written, said.len());
     let answers = &said[0..written];
-    let done = if is_traced(tape) {
-        write_traced(before, after, heard.over, answers)
+    let wrote = if is_traced(tape) {
+        write_traced(rt, before, after, heard.over, answers)
     } else {
-        write_on(STDOUT_FILENO, answers)
+        write_on(rt, &mut rt.stdout(), answers)
     };
-    if !done {
-        return broken(b"standard output", block.left, block.lines);
+    if let Err(error) = wrote {
+        return broken(rt, b"standard output", error, block.left, block.lines);
     }
     let lines = wrapping_add_u64(block.lines, (written / PRINTED_BYTES) as u64);
     if heard.over {
-        return ended_by(block, lines, written, tape);
+        return ended_by(rt, block, lines, written, tape);
     }
     let kept = keep_rest(tape, block.filled, heard.used);
-    read_block(tape, kept, block.left, lines)
+    read_block(rt, tape, kept, block.left, lines)
 }

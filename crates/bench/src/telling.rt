@@ -1,42 +1,43 @@
 // How a run can end before its text does, told on standard error.
-use errands::telling::{say, say_name, say_number};
+use errands::telling::{say, say_name, say_number, tell_failure};
 use fault::{Fault, fault_of};
+use std::io::Error;
 use transcript::frame::MALFORMED;
 
-fn say_fault(fault: Fault) {
+fn say_fault(rt: &HostRuntime, fault: Fault) {
     match fault {
-        Fault::NoFault => say(b"malformed"),
-        Fault::EmptyLine => say(b"an empty line"),
-        Fault::TooShort => say(b"too short"),
-        Fault::LowerCase => say(b"a lower-case digit"),
-        Fault::ReturnByte => say(b"a CR"),
-        Fault::BlankByte => say(b"a blank"),
-        Fault::NoDigit => say(b"no digit 0-9 A-F"),
-        Fault::TooLong => say(b"too long"),
-        Fault::Unended => say(b"no LF at the end"),
+        Fault::NoFault => say(rt, b"malformed"),
+        Fault::EmptyLine => say(rt, b"an empty line"),
+        Fault::TooShort => say(rt, b"too short"),
+        Fault::LowerCase => say(rt, b"a lower-case digit"),
+        Fault::ReturnByte => say(rt, b"a CR"),
+        Fault::BlankByte => say(rt, b"a blank"),
+        Fault::NoDigit => say(rt, b"no digit 0-9 A-F"),
+        Fault::TooLong => say(rt, b"too long"),
+        Fault::Unended => say(rt, b"no LF at the end"),
     }
 }
 
 // The line that ended the run, all the text from its place on.
-pub fn tell_malformed(text: &[u8], line: u64) {
-    say_name(b"standard input");
-    say(b"line ");
-    say_number(line);
-    say(b": ");
-    say_fault(fault_of(text));
-    say(b" (");
-    say_number(MALFORMED as u64);
-    say(b")\n");
+pub fn tell_malformed(rt: &HostRuntime, text: &[u8], line: u64) {
+    say_name(rt, b"standard input");
+    say(rt, b"line ");
+    say_number(rt, line);
+    say(rt, b": ");
+    say_fault(rt, fault_of(text));
+    say(rt, b" (");
+    say_number(rt, MALFORMED as u64);
+    say(rt, b")\n");
 }
 
-// What C says of the call that failed, and how far the run came.
-pub fn tell_broken(what: &[u8], lines: u64) {
-    errands::telling::tell_failure(what);
-    say(b"bench: broken off after ");
-    say_number(lines);
+// Why a call failed, and how far the run came.
+pub fn tell_broken(rt: &HostRuntime, what: &[u8], error: Error, lines: u64) {
+    tell_failure(rt, what, error);
+    say(rt, b"bench: broken off after ");
+    say_number(rt, lines);
     if lines == 1 {
-        say(b" line\n");
+        say(rt, b" line\n");
     } else {
-        say(b" lines\n");
+        say(rt, b" lines\n");
     }
 }

@@ -1,11 +1,10 @@
 // A trace: each answer with its words, on its line. A block is one line then, so that the state is known before and after it.
 ghost use Rattle.std.specs.Prelude.{◌<◌};
 
-use base::logic::and;
 use base::word::word_of;
 use bus::Bus;
-use libc::STDOUT_FILENO;
 use print::PRINTED_BYTES;
+use std::io::Result;
 use stream::write_on;
 use trace::{WORDS, words};
 use transcript::digit::{DIGITS, digit_of};
@@ -53,52 +52,66 @@ fn word_at(text: &[u8], at: usize) -> u16
     )
 }
 
+fn write(rt: &HostRuntime, text: &[u8]) -> Result<()> {
+    write_on(rt, &mut rt.stdout(), text)
+}
+
 // Ends a line, which has room for that, and writes it.
-fn write_line(line: &mut [u8], end: usize) -> bool {
+fn write_line(rt: &HostRuntime, line: &mut [u8], end: usize) -> Result<()> {
     if line.len() <= end {
-        return true;
+        return Ok(());
     }
     line[end] = LF;
-    write_on(STDOUT_FILENO, &line[0..end + 1])
+    write(rt, &line[0..end + 1])
 }
 
 // An answer and its words, on a line that has room for them.
-fn write_on_line(before: Bus, after: Bus, answer: &[u8], line: &mut [u8]) -> bool {
+fn write_on_line(
+    rt: &HostRuntime,
+    before: Bus,
+    after: Bus,
+    answer: &[u8],
+    line: &mut [u8],
+) -> Result<()> {
     if answer.len() < ANSWER {
-        return true;
+        return Ok(());
     }
     if line.len() < LINE {
-        return true;
+        return Ok(());
     }
-    bytes::copy(&answer[0..ANSWER], &mut line[0..ANSWER]);
+    line[0..ANSWER].copy_from_slice(&answer[0..ANSWER]);
     let event = word_at(answer, EVENT);
     let result = word_at(answer, RESULT);
     let room = &mut line[ANSWER + GAP..LINE - 1];
     let n = words(before, after, event, result, room);
-    write_line(line, ANSWER + GAP + n)
+    write_line(rt, line, ANSWER + GAP + n)
 }
 
 // A line without an event ends a run, or stands for one that is refused. Standard error says why.
-pub fn write_closing(closing: &[u8], words: &[u8]) -> bool {
+pub fn write_closing(rt: &HostRuntime, closing: &[u8], words: &[u8]) -> Result<()> {
     if closing.len() < ANSWER {
-        return true;
+        return Ok(());
     }
-    and(
-        write_on(STDOUT_FILENO, &closing[0..ANSWER]),
-        write_on(STDOUT_FILENO, words),
-    )
+    write(rt, &closing[0..ANSWER])?;
+    write(rt, words)
 }
 
 // The line that a malformed one is answered with.
-pub fn write_malformed(closing: &[u8]) -> bool {
-    write_closing(closing, b"  malformed line: the run ends\n")
+pub fn write_malformed(rt: &HostRuntime, closing: &[u8]) -> Result<()> {
+    write_closing(rt, closing, b"  malformed line: the run ends\n")
 }
 
-// Answers whether all was written; where nothing is answered yet, nothing is.
-pub fn write_traced(before: Bus, after: Bus, over: bool, answer: &[u8]) -> bool {
+// Where nothing is answered yet, nothing is written.
+pub fn write_traced(
+    rt: &HostRuntime,
+    before: Bus,
+    after: Bus,
+    over: bool,
+    answer: &[u8],
+) -> Result<()> {
     if over {
-        return write_malformed(answer);
+        return write_malformed(rt, answer);
     }
     let mut line = [b' '; LINE];
-    write_on_line(before, after, answer, &mut line)
+    write_on_line(rt, before, after, answer, &mut line)
 }

@@ -26,7 +26,7 @@ def declared(text):
     out = collections.defaultdict(set)
     for line in text.splitlines():
         code = code_of(line)[0]
-        m = re.match(r"^\s*((?:(?:abbrev|unfoldable|pub|private)\s+)*)([^\s:(){}\[\]=,;λ\"]+(?:\s+[^\s:(){}\[\]=,;λ\"]+)*)\s+:\s", code)
+        m = re.match(r"^\s*((?:(?:abbrev|unfoldable|pub|private)\s+)*)([^\s:(){}\[\]=,;λ\"]+(?:\s+[^\s:(){}\[\]=,;λ\"]+)*)\s+:(?:\s|$)", code)
         if m:
             for n in m.group(2).split():
                 if n not in MARKS + ("let", "use", "record", "data", "module", "mod"):
@@ -63,8 +63,9 @@ def answers(text):
 
 
 def snake(name):
-    name = re.sub(r"(?<=[a-z])(?=24CS)", "_", name).replace("24CSM01", "24csm01").replace("24CS32", "24cs32").replace("AT24CM01", "At24cm01")
+    name = re.sub(r"(?<=[a-z])(?=24CS)", "_", name).replace("24CSM01", "24csm01").replace("24CS32", "24cs32").replace("AT24CM01", "At24cm01").replace("FFFFh", "ffffh")
     name = name.replace("-", "_")
+    name = re.sub(r"(?<=[A-Z])([A-Z])(?=[a-z])", lambda m: "_" + m.group(1).lower(), name)
     name = re.sub(r"(?<=[a-z0-9])_?([A-Z])", lambda m: "_" + m.group(1).lower(), name)
     return re.sub(r"_([A-Z])", lambda m: "_" + m.group(1).lower(), name)
 

@@ -18,7 +18,7 @@ abbrev page_of : List ℕ → List ℕ
 page_of digits = showing ++ (49 ∷ colon ∷ 48 ∷ colon ∷ digits)
 
 -- 1FF is the last page of a 24CSM01's array, 0001 is page 1, FFFF the greatest number; no digits, five, and a lower-case one are no number
-pub numbers-hold :
+pub numbers_hold :
     (page_asked (page_of (49 ∷ 70 ∷ 70 ∷ [])) ≡ Page 1 0 511)
     × (page_asked (page_of (48 ∷ 48 ∷ 48 ∷ 49 ∷ [])) ≡ Page 1 0 1)
     × (page_asked (page_of (70 ∷ 70 ∷ 70 ∷ 70 ∷ [])) ≡ Page 1 0 65535)
@@ -26,14 +26,14 @@ pub numbers-hold :
     × (page_asked (page_of (48 ∷ 48 ∷ 48 ∷ 48 ∷ 49 ∷ [])) ≡ Unknown)
     × (page_asked (page_of (102 ∷ [])) ≡ Unknown)
 unfolding opens all_digits number_from digit_of
-numbers-hold = (refl, refl, refl, refl, refl, refl)
+numbers_hold = (refl, refl, refl, refl, refl, refl)
 
 -- trace with a byte more, or one less, is another word; and so is status: with two digits
-pub lengths-hold :
+pub lengths_hold :
     (asks_trace tracing ≡ true)
     × (asks_trace (tracing ++ (58 ∷ [])) ≡ false)
     × (asks_trace (116 ∷ 114 ∷ 97 ∷ 99 ∷ []) ≡ false)
     × (status_asked (telling ++ (51 ∷ [])) ≡ On 3)
     × (status_asked (telling ++ (51 ∷ 51 ∷ [])) ≡ NoStatus)
 unfolding opens digit_of
-lengths-hold = (refl, refl, refl, refl, refl)
+lengths_hold = (refl, refl, refl, refl, refl)

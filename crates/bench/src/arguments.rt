@@ -222,8 +222,8 @@ pub fn tell_words(rt: &HostRuntime, words: Words) -> Status {
 // A descriptor's name among files has at most so many bytes.
 const NAME: usize = 32;
 
-// Writes on a descriptor that the program was started with. std reaches it by its name among files alone.
-fn write_on_descriptor(rt: &HostRuntime, descriptor: u8, text: &[u8]) -> Result<()> {
+// std reaches a descriptor by its name among files alone, unless it is one of the three that it names itself.
+fn write_by_name(rt: &HostRuntime, descriptor: u8, text: &[u8]) -> Result<()> {
     let mut name = Cursor::new([0u8; NAME]);
     write!(name, "/proc/self/fd/{descriptor}")?;
     let n = least(name.position() as usize, NAME);
@@ -234,6 +234,22 @@ fn write_on_descriptor(rt: &HostRuntime, descriptor: u8, text: &[u8]) -> Result<
             write_on(rt, &mut file, text)
         }
         Err(_) => Ok(()),
+    }
+}
+
+const INPUT: u8 = 0;
+
+const OUTPUT: u8 = 1;
+
+const ERRORS: u8 = 2;
+
+// Writes on a descriptor that the program was started with. Opened anew by its name, the file that is read would be written to.
+fn write_on_descriptor(rt: &HostRuntime, descriptor: u8, text: &[u8]) -> Result<()> {
+    match descriptor {
+        INPUT => Ok(()),
+        OUTPUT => write_on(rt, &mut rt.stdout(), text),
+        ERRORS => write_on(rt, &mut rt.stderr(), text),
+        _ => write_by_name(rt, descriptor, text),
     }
 }
 

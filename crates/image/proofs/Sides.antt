@@ -136,28 +136,28 @@ ends =
 abbrev said : ℕ × ℕ × List ℕ × ℕ → ℕ
 said (size, upper, rest, number) = status_of (first_of (record_checks size upper rest))
 
-pub records-on-both-sides :
+pub records_on_both_sides :
     (map (λ (row : String × List ℕ). loads_to row.0) taken ≡ map (λ (row : String × List ℕ). (loaded, row.1)) taken)
     × (map (λ (row : String × ℕ × ℕ). answered (loads_to row.0)) refused ≡ map (λ (row : String × ℕ × ℕ). (row.1, row.2, blank)) refused)
     × (map said ends ≡ map (λ (row : ℕ × ℕ × List ℕ × ℕ). row.3) ends)
 unfolding taken refused ends load_share up_to digit_of value_of byte_at is_framed put_data record_text next_reading read_on next_storing store_on stored
-records-on-both-sides = (refl, refl, refl)
+records_on_both_sides = (refl, refl, refl)
 
 -- 16 bytes at FFF8h of a 24CSM01, and a byte at 0000h behind them
 abbrev across : List ℕ
 across = text_of ":10FFF800000102030405060708090A0B0C0D0E0F81\n:0100000055AA\n:00000001FF\n"
 
 -- the first record runs on to 10007h, with its last byte; the second is back at 0, since no record of type 04 came between
-pub a-record-runs-on-past-FFFFh :
+pub a_record_runs_on_past_ffffh :
     (status_of (text_verdict m01 across) ≡ 0)
     × (map (stores_at m01 across (reading_after m01 across 0)) (0xFFF7 ∷ 0xFFF8 ∷ 0x10007 ∷ 0x10008 ∷ []) ≡ false ∷ true ∷ true ∷ false ∷ [])
     × (byte_for across (reading_after m01 across 0) 0x10007 ≡ 0x0F)
     × (map (stores_at m01 across (reading_after m01 across 1)) (0x00000 ∷ 0x10000 ∷ []) ≡ true ∷ false ∷ [])
 unfolding up_to digit_of value_of byte_at is_framed next_reading read_on
-a-record-runs-on-past-FFFFh = (refl, refl, refl, refl)
+a_record_runs_on_past_ffffh = (refl, refl, refl, refl)
 
 -- how long the text of each part is; before which rows a record of type 04 stands, and that record; the text of 32 bytes
-pub saving-on-both-sides :
+pub saving_on_both_sides :
     (saved_size cs32 ≡ 11276)
     × (saved_size m01 ≡ 360476)
     × (map upper_changes (0 ∷ 1 ∷ 4095 ∷ 4096 ∷ 4097 ∷ 8191 ∷ []) ≡ false ∷ false ∷ false ∷ true ∷ false ∷ false ∷ [])
@@ -165,4 +165,4 @@ pub saving-on-both-sides :
     × (saved_text (blank ++ replicate 16 0x5A)
     ≡ text_of ":10000000FFFFFFFFFFFFFFFFFFFFFFFFFFFFFFFF00\n:100010005A5A5A5A5A5A5A5A5A5A5A5A5A5A5A5A40\n:00000001FF\n")
 unfolding saved_text row_text record_text up_to
-saving-on-both-sides = (refl, refl, refl, refl, refl)
+saving_on_both_sides = (refl, refl, refl, refl, refl)

@@ -102,11 +102,11 @@ id_read part n =
     reply_of 0xFF
     (chip_played ((Start ∷ Sent true 0xF8 ∷ Sent false 0xA0 ∷ Start ∷ []) ++ (id_events n ++ (Read true ∷ []))) (quiet (fresh part 0), [], [], no_values)).0.said
 
-pub seven-id-bytes :
+pub seven_id_bytes :
     map (id_read 1) (0 ∷ 1 ∷ 2 ∷ 3 ∷ 4 ∷ 5 ∷ 6 ∷ []) ++ map (id_read 2) (0 ∷ 1 ∷ 2 ∷ 3 ∷ 4 ∷ 5 ∷ 6 ∷ [])
     ≡ (0x00 ∷ 0xD0 ∷ 0xD0 ∷ 0x00 ∷ 0xD0 ∷ 0xD0 ∷ 0x00 ∷ []) ++ (0x00 ∷ 0xD0 ∷ 0xA8 ∷ 0x00 ∷ 0xD0 ∷ 0xA8 ∷ 0x00 ∷ [])
 unfolding step values_after take span_after taking.values_after take_address take_choice call_of call_by_form geometry_of read
-seven-id-bytes = refl
+seven_id_bytes = refl
 
 -- a line that passes the checks at entry, and one of its chips
 module _ (world : World) (typed : OfItsType (bus_of world)) (enters : first_of (entry_checks (bus_of world) (array_of world) (security_of world)) ≡ Passed) (k : ℕ) (below : k < (bus_of world).count) where

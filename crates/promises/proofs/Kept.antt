@@ -23,7 +23,7 @@ use Rattle.promises.proofs.Keeping.Wellformed.{kept}
 use Rattle.promises.proofs.Keeping.Heeding.{heeds_kept}
 use Rattle.promises.proofs.Keeping.Registers.{part_kept, strap_kept}
 use Rattle.promises.proofs.Keeping.Typed.{chip_typed_kept, values_long_kept}
-use Rattle.promises.proofs.Keeping.Beside.{names_aChip, named_kept, side_by_side_kept, beside_sym}
+use Rattle.promises.proofs.Keeping.Beside.{names_a_chip, named_kept, side_by_side_kept, beside_sym}
 use Rattle.refusal.specs.declared.Verdict.{Verdict}
 use Rattle.refusal.specs.declared.Verdict.TheVariants.{Passed, Refused}
 use Rattle.refusal.specs.Checks.{first_of}
@@ -51,7 +51,7 @@ no_clash : (addressed : Addressed) (bus : Bus) (word : ℕ) → addressed ≡ ad
 no_clash addressed bus word is passes = rw is (none_holds (event_checks bus word) passes).1.1.1.0
 
 -- an event that names a chip keeps the Start that is remembered
-pub named_remembers : (e : Event) (started : Bool) → names_aChip e ≡ true → remembers e started ≡ started
+pub named_remembers : (e : Event) (started : Bool) → names_a_chip e ≡ true → remembers e started ≡ started
 named_remembers Start started named = absurd (false≢true named)
 named_remembers Stop started named = absurd (false≢true named)
 named_remembers (Sent first byte) started named = absurd (false≢true named)
@@ -63,7 +63,7 @@ named_remembers PowerUp started named = absurd (false≢true named)
 -- an event that names one chip is of a kind that moves it into no chip's way
 abbrev Fair : Addressed → Type 0
 Fair (ToAll e) = Unit {0}
-Fair (ToOne k e) = names_aChip e ≡ true
+Fair (ToOne k e) = names_a_chip e ≡ true
 
 addressed_fair : (started : Bool) (word : ℕ) → Fair (addressed_of started word)
 unfolding addressed_of
@@ -106,7 +106,7 @@ module _ (addressed : Addressed) (count : ℕ) (chips : List Chip) (values array
   places_stay = up_same _ _ 4 (λ i places below. ap (set places i) (place_kept i (dec_lt i (placed count)))) (replicate 4 nowhere)
 
   -- an event that names a chip keeps every chip beside any other, whether it reaches it or not
-  one_kept : (k : ℕ) (e : Event) → names_aChip e ≡ true → (i : ℕ) (d : Chip) → side_by_side (control_at chips i) d.control ≡ true
+  one_kept : (k : ℕ) (e : Event) → names_a_chip e ≡ true → (i : ℕ) (d : Chip) → side_by_side (control_at chips i) d.control ≡ true
       → side_by_side (mine (ToOne k e) i).control d.control ≡ true
   one_kept k e named i d test =
       either (λ (x : Stepped × List ℕ × List ℕ). side_by_side x.0.chip.control d.control ≡ true) (eqb i k) _ _

@@ -24,7 +24,7 @@ set_up_with array security one other = status_of (set_up 2 (two one other) (repl
 
 -- 3:0 beside 1:0 is 4, beside 1:1 accepted; beside a 24CS32 at straps 0 and 1 it is 4, at strap 2 accepted; strap 3 is the last, and part 4 is none.
 -- A board 3:0 2:4 needs 135,168 and 64 bytes
-pub set-up-on-both-sides :
+pub set_up_on_both_sides :
     set_up_with 262144 512 (place 3 0) (place 1 0)
     ∷ set_up_with 262144 512 (place 3 0) (place 1 1)
     ∷ set_up_with 135168 64 (place 3 0) (place 2 0)
@@ -41,14 +41,14 @@ pub set-up-on-both-sides :
     ∷ []
     ≡ 4 ∷ 0 ∷ 4 ∷ 4 ∷ 0 ∷ 0 ∷ 4 ∷ 3 ∷ 2 ∷ 0 ∷ 5 ∷ 5 ∷ 5 ∷ []
 unfolding set_up up_to geometry_of
-set-up-on-both-sides = refl
+set_up_on_both_sides = refl
 
 -- where the shares of 2:0 3:1 1:2 begin, and where the last of them ends: that of the AT24CM01 in the security store has no bytes
 abbrev between : List Place
 between = place 2 0 ∷ place 3 1 ∷ place 1 2 ∷ nowhere ∷ []
 
-pub shares-between-two-others :
+pub shares_between_two_others :
     map (array_start between) (0 ∷ 1 ∷ 2 ∷ 3 ∷ []) ++ map (security_start between) (0 ∷ 1 ∷ 2 ∷ 3 ∷ [])
     ≡ (0 ∷ 4096 ∷ 135168 ∷ 266240 ∷ []) ++ (0 ∷ 64 ∷ 64 ∷ 576 ∷ [])
 unfolding up_to geometry_of
-shares-between-two-others = refl
+shares_between_two_others = refl

@@ -131,10 +131,10 @@ module _ (first : Bool) (byte count : ℕ) (chips : List Chip) (values array sec
   line_acks : is_ack line ≡ any_below acks (placed count)
   line_acks = acks_carried says_to no_byte_lem (placed count)
 
-  pub acknowledged-exactly-when :
+  pub acknowledged_exactly_when :
       (line_reply (Sent first byte) (gathered (ToAll (Sent first byte)) count chips values array security) ≡ 1)
       ↔ ((i : ℕ) × ((i < placed count) × ((own (ToAll (Sent first byte)) chips values array security i).0.said ≡ Ack)))
-  acknowledged-exactly-when = (to, from)
+  acknowledged_exactly_when = (to, from)
     where
       to : reply_of 0 line ≡ 1 → (i : ℕ) × ((i < placed count) × (says_to i ≡ Ack))
       to is =
@@ -144,11 +144,11 @@ module _ (first : Bool) (byte count : ℕ) (chips : List Chip) (values array sec
       from : (i : ℕ) × ((i < placed count) × (says_to i ≡ Ack)) → reply_of 0 line ≡ 1
       from (i, (below, here)) = rw (is_ack_lem line (line_acks ∙ any_at acks (placed count) i below (ap is_ack here)))
 
-  pub else-unanswered :
+  pub else_unanswered :
       (line_reply (Sent first byte) (gathered (ToAll (Sent first byte)) count chips values array security) ≡ 1)
       ⊎ ((line_reply (Sent first byte) (gathered (ToAll (Sent first byte)) count chips values array security) ≡ 2)
       ⊎ (line_reply (Sent first byte) (gathered (ToAll (Sent first byte)) count chips values array security) ≡ 0))
-  else-unanswered = go line line_no_byte
+  else_unanswered = go line line_no_byte
     where
       go : (said : Said) → is_byte said ≡ false → (reply_of 0 said ≡ 1) ⊎ ((reply_of 0 said ≡ 2) ⊎ (reply_of 0 said ≡ 0))
       go Nothing other = inr (inr refl)

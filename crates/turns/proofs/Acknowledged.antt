@@ -28,7 +28,7 @@ use Rattle.bus.proofs.Typed.{has_four}
 use Rattle.promises.specs.Own.{own, gathered}
 use Rattle.promises.specs.Playing.{World, Made, after_one, answer_to, after, answers_to}
 use Rattle.promises.proofs.Chips.{answer_is_gathered}
-use Rattle.promises.proofs.Replies.{silent_line, acknowledged-exactly-when}
+use Rattle.promises.proofs.Replies.{silent_line, acknowledged_exactly_when}
 use Rattle.turns.specs.Turn.{is_start, is_f8}
 use Rattle.turns.specs.Shuffle.{is_excepted}
 use Rattle.turns.specs.Alone.{alone}
@@ -72,7 +72,7 @@ module _ (world : World) (e : Entering world) (heeding : (i : ℕ) → i < world
       → line_reply f8 (gathered (ToAll f8) count chips world.0.values world.1 world.2) ≡ cond some 0x01 0x00
   reply_is true is =
       let (i, (below, here)) = any_some free (placed count) is in
-      (acknowledged-exactly-when world.0.started 0xF8 count chips world.0.values world.1 world.2).1 (i, (below, says i below ∙ rw here))
+      (acknowledged_exactly_when world.0.started 0xF8 count chips world.0.values world.1 world.2).1 (i, (below, says i below ∙ rw here))
   reply_is false is =
       ap (line_reply f8)
       (silent_line said_by (placed count) λ i below. says i below ∙ rw (any_none free (placed count) i is below))

@@ -12,7 +12,7 @@ use Rattle.chip.specs.declared.event.Event.TheVariants.{Start, Stop, Sent, Read,
 use Rattle.decode.specs.declared.Addressed.{Addressed}
 use Rattle.decode.specs.declared.Addressed.TheVariants.{ToAll, ToOne}
 use Rattle.decode.specs.Decode.{kind_of, value_of, unknown_kind, value_allowed, addressed_of}
-use Rattle.promises.proofs.Keeping.Beside.{names_aChip}
+use Rattle.promises.proofs.Keeping.Beside.{names_a_chip}
 use Rattle.turns.specs.Turn.{is_start, is_stop, is_sent, is_f8, is_read, is_naming}
 use Rattle.turns.specs.Alone.{renamed}
 
@@ -59,7 +59,7 @@ read_asks started count word is =
 
 -- 05, 06 or 07: WP low, WP high, cycle over
 pub naming_asks : (started : Bool) (count k word : ℕ) → k < count → is_naming k word ≡ true
-    → (event : Event) × ((names_aChip event ≡ true) × Asked started count word (ToOne k event))
+    → (event : Event) × ((names_a_chip event ≡ true) × Asked started count word (ToOne k event))
 unfolding addressed_of
 naming_asks started count k word below is = go (eqb (kind_of word) 5) (eqb (kind_of word) 6) refl refl
   where
@@ -73,7 +73,7 @@ naming_asks started count k word below is = go (eqb (kind_of word) 5) (eqb (kind
     named = lt-ltb k count below
 
     go : (low high : Bool) → eqb (kind_of word) 5 ≡ low → eqb (kind_of word) 6 ≡ high
-        → (event : Event) × ((names_aChip event ≡ true) × Asked started count word (ToOne k event))
+        → (event : Event) × ((names_a_chip event ≡ true) × Asked started count word (ToOne k event))
     go true high five six =
         let kind : kind_of word ≡ 5 = eqb-true _ _ five in
         (Wp false, (refl, rw (kind, value) ((refl, named, refl), (refl, refl, refl))))

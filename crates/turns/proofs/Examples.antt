@@ -314,7 +314,7 @@ board_of first second =
     let unloaded : Control → Chip = λ c. record { control = c; span = empty_span } in
     bus_with 2 false (unloaded first ∷ unloaded second ∷ empty_chip ∷ empty_chip ∷ []) no_values
 
-pub f8-on-mixed-boards :
+pub f8_on_mixed_boards :
     acknowledge (board_of (fresh 3 0) (fresh 3 1))
     ∷ acknowledge (board_of (fresh 3 0) (in_phase Busy (fresh 2 4)))
     ∷ acknowledge (board_of (in_phase Busy (fresh 3 0)) (fresh 2 4))
@@ -322,4 +322,4 @@ pub f8-on-mixed-boards :
     ∷ []
     ≡ 0x0000 ∷ 0x0000 ∷ 0x0001 ∷ 0x0001 ∷ []
 unfolding up_to geometry_of
-f8-on-mixed-boards = refl
+f8_on_mixed_boards = refl

@@ -29,7 +29,7 @@ use Rattle.bus.specs.declared.Bus.{Bus}
 use Rattle.bus.specs.Step.{bus_with, played, step}
 use Rattle.bus.proofs.Typed.{OfItsType, count_fits, has_four, every_typed, values_typed, bus_typed}
 use Rattle.promises.specs.Playing.{World, Made, stepped, led_to, after_one, answer_to, after, answers_to}
-use Rattle.promises.proofs.Keeping.Beside.{names_aChip}
+use Rattle.promises.proofs.Keeping.Beside.{names_a_chip}
 use Rattle.promises.proofs.Kept.{named_remembers}
 use Rattle.promises.proofs.Formed.{Formed, formed_of, of_formed, EntryHolds, entry_of, of_entry}
 use Rattle.turns.specs.Idle.{is_at_rest, is_idle}
@@ -71,7 +71,7 @@ module _ (world : World) (started : Bool) (e : Entering world) (es : Entering (w
         let (event, (named, (legal, own))) = naming_asks started world.0.count k word below is in
         go event named legal (legal.0, legal.1, asks_alike world.0.started started ∙ legal.2) (line_verdict (ToOne k event) world) refl
       where
-        go : (event : Event) → names_aChip event ≡ true → Legal started world.0.count word (ToOne k event) → Legal world.0.started world.0.count word (ToOne k event)
+        go : (event : Event) → names_a_chip event ≡ true → Legal started world.0.count word (ToOne k event) → Legal world.0.started world.0.count word (ToOne k event)
             → (v : Verdict) → line_verdict (ToOne k event) world ≡ v → stepped step (with_start started world) word ≡ restarted started (stepped step world word)
         go event named legal legal' (Refused refusal) says =
             step_refused (with_start started world) word (ToOne k event) es legal refusal says

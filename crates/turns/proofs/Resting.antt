@@ -39,7 +39,7 @@ use Rattle.chip.specs.Chip.{step}
 use Rattle.wellformed.specs.Wellformed.{busy_not_chosen, control_fits, well_formed}
 use Rattle.promises.proofs.Keeping.Fits.{apart}
 use Rattle.promises.proofs.Keeping.Good.{unloaded_of}
-use Rattle.promises.proofs.Keeping.Beside.{names_aChip}
+use Rattle.promises.proofs.Keeping.Beside.{names_a_chip}
 use Rattle.turns.specs.Idle.{is_at_rest}
 use Rattle.turns.specs.Undisturbed.{is_free}
 use Rattle.turns.proofs.Bystander.{woken}
@@ -87,7 +87,7 @@ stop_rests c v a s formed =
     unchosen : busy_not_chosen c.control ≡ true
     unchosen = (apart c.control (and_left _ _ formed)).busy
 
-pub named_rests : (c : Chip) (v a s : List ℕ) (event : Event) → names_aChip event ≡ true → is_at_rest c ≡ true → is_at_rest (step c v a s event).0.chip ≡ true
+pub named_rests : (c : Chip) (v a s : List ℕ) (event : Event) → names_a_chip event ≡ true → is_at_rest c ≡ true → is_at_rest (step c v a s event).0.chip ≡ true
 unfolding step
 named_rests c v a s Start named rest = absurd (false≢true named)
 named_rests c v a s Stop named rest = absurd (false≢true named)

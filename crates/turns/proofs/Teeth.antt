@@ -72,12 +72,12 @@ abbrev calls : Turn
 calls = of 0 (0x0100 ∷ 0x03F8 ∷ 0x03A0 ∷ 0x0200 ∷ [])
 
 -- where that chip is busy and the other is not, the other acknowledges it; alone on the line the busy one does not
-pub f8-is-acknowledged-by-another :
+pub f8_is_acknowledged_by_another :
     (is_excepted calls.events 1 ≡ true)
     × (answers_to step (pair busy free) calls.events ≡ 0x0000 ∷ 0x0001 ∷ 0x0000 ∷ 0x0000 ∷ [])
     × (answers_to step (alone 0 (pair busy free)) (map renamed calls.events) ≡ 0x0000 ∷ 0x0000 ∷ 0x0000 ∷ 0x0000 ∷ [])
 unfolding event_by_event
-f8-is-acknowledged-by-another = (
+f8_is_acknowledged_by_another = (
   refl,
   (computed none none_keeps (pair busy free) pairs_idle.1.entering calls.events).1,
   (computed none none_keeps (alone 0 (pair busy free)) pairs_idle.3.entering (map renamed calls.events)).1,

@@ -68,32 +68,32 @@ pub standby_on_both_sides : map (λ (count : ℕ). well_formed (loading (in_phas
 unfolding well_formed geometry_of
 standby_on_both_sides = refl
 
-pub other-data-on-both-sides :
+pub other_data_on_both_sides :
     map (λ (kind : Data). well_formed (loading (taking kind 2) 5 1)) (ToConfiguration Zero ∷ ToLock true ∷ ToNowhere ∷ ToArray ∷ ToSecurity ∷ [])
     ≡ true ∷ true ∷ true ∷ false ∷ false ∷ []
 unfolding well_formed geometry_of
-other-data-on-both-sides = refl
+other_data_on_both_sides = refl
 
 -- one byte at place 5: the counter stands at place 6 of whatever page; 20 bytes from place 31 on, which went round: at place 19; and with a
 -- whole page it may stand anywhere
-pub array-counter-on-both-sides :
+pub array_counter_on_both_sides :
     map (λ (at : ℕ). well_formed (loading (array_at 2 at) 5 1)) (5 ∷ 6 ∷ 7 ∷ 38 ∷ []) ≡ false ∷ true ∷ false ∷ true ∷ []
 unfolding well_formed geometry_of
-array-counter-on-both-sides = refl
+array_counter_on_both_sides = refl
 
-pub wrapped-counter-on-both-sides :
+pub wrapped_counter_on_both_sides :
     map (λ (at : ℕ). well_formed (loading (array_at 2 at) 31 20)) (18 ∷ 19 ∷ 20 ∷ []) ≡ false ∷ true ∷ false ∷ []
 unfolding well_formed geometry_of
-wrapped-counter-on-both-sides = refl
+wrapped_counter_on_both_sides = refl
 
 pub full_page_counter : map (λ (at : ℕ). well_formed (loading (array_at 2 at) 5 32)) (4 ∷ 5 ∷ 6 ∷ []) ≡ true ∷ true ∷ true ∷ []
 unfolding well_formed geometry_of
 full_page_counter = refl
 
-pub security-counter-on-both-sides :
+pub security_counter_on_both_sides :
     map (λ (at : ℕ). well_formed (loading (security_at 1 at) 254 2)) (511 ∷ 256 ∷ 257 ∷ []) ≡ false ∷ true ∷ false ∷ []
 unfolding well_formed geometry_of
-security-counter-on-both-sides = refl
+security_counter_on_both_sides = refl
 
 -- a fresh AT24CM01, and beside it a fresh 24CSM01, with one thing changed
 abbrev on_both : (Control → Control) → Bool × Bool
@@ -116,18 +116,18 @@ without_registers_on_both = refl
 abbrev in_phases : List Phase → List (Bool × Bool)
 in_phases phases = map (λ (phase : Phase). on_both (in_phase phase)) phases
 
-pub array-phases-on-both :
+pub array_phases_on_both :
     in_phases (Standby ∷ Busy ∷ AwaitsAddress ∷ AwaitsWord (ArrayFirst true) ∷ AwaitsWord (ArraySecond true 0) ∷ TakesData ToArray ∷ SendsByte FromArray ∷ [])
     ≡ (true, true) ∷ (true, true) ∷ (true, true) ∷ (true, true) ∷ (true, true) ∷ (true, true) ∷ (true, true) ∷ []
 unfolding well_formed geometry_of
-array-phases-on-both = refl
+array_phases_on_both = refl
 
-pub register-phases-on-both :
+pub register_phases_on_both :
     in_phases (AwaitsWord RegisterFirst ∷ AwaitsWord (RegisterSecond 0x08) ∷ TakesData ToSecurity ∷ TakesData (ToConfiguration Zero) ∷ TakesData (ToLock false)
     ∷ TakesData ToNowhere ∷ SendsByte FromSecurity ∷ SendsByte (FromConfiguration false) ∷ SendsByte FromNothing ∷ [])
     ≡ (false, true) ∷ (false, true) ∷ (false, true) ∷ (false, true) ∷ (false, true) ∷ (false, true) ∷ (false, true) ∷ (false, true) ∷ (false, true) ∷ []
 unfolding well_formed geometry_of
-register-phases-on-both = refl
+register_phases_on_both = refl
 
 pub identity_phases_on_both : in_phases (AwaitsChoice ∷ SendsByte (FromId 0) ∷ []) ≡ (false, true) ∷ (false, true) ∷ []
 unfolding well_formed geometry_of

@@ -281,16 +281,16 @@ over_beside c d b =
         }
 
 -- the events that name one chip
-abbrev pub names_aChip : Event → Bool
-names_aChip Start = false
-names_aChip Stop = false
-names_aChip (Sent first byte) = false
-names_aChip (Read nack) = false
-names_aChip (Wp level) = true
-names_aChip CycleOver = true
-names_aChip PowerUp = false
+abbrev pub names_a_chip : Event → Bool
+names_a_chip Start = false
+names_a_chip Stop = false
+names_a_chip (Sent first byte) = false
+names_a_chip (Read nack) = false
+names_a_chip (Wp level) = true
+names_a_chip CycleOver = true
+names_a_chip PowerUp = false
 
-pub named_kept : (c d : Chip) (values array security : List ℕ) (event : Event) → names_aChip event ≡ true
+pub named_kept : (c d : Chip) (values array security : List ℕ) (event : Event) → names_a_chip event ≡ true
     → side_by_side c.control d.control ≡ true
     → side_by_side (chip.step c values array security event).0.chip.control d.control ≡ true
 unfolding chip.step

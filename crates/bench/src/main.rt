@@ -17,7 +17,7 @@ use errands::{Ending, blank_text};
 use factory::{erased_arrays, erased_registers, mark_serials};
 use placing::layout::Board;
 use print::PRINTED_BYTES;
-use refusal::{Refusal, Verdict, number_of};
+use refusal::Refusal;
 use status::{Status, greatest};
 use transcript::frame::FRAME_BYTES;
 
@@ -125,11 +125,11 @@ fn serve(
     let set_up = Bus::set_up(count, places, array, security);
     let verdict = set_up.verdict;
     match verdict {
-        Verdict::Refused(refusal) => {
+        Err(refusal) => {
             tell_refusal(rt, b"board", 0, refusal);
             refused(rt, traced, refusal)
         }
-        Verdict::Passed => play(rt, traced, set_up.bus, array, security, text),
+        Ok(()) => play(rt, traced, set_up.bus, array, security, text),
     }
 }
 

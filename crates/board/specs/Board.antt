@@ -5,7 +5,7 @@ use Rattle.parts.specs.Part.{is_part, geometry_of}
 use Rattle.parts.specs.Address.{share_address}
 use Rattle.refusal.specs.declared.Refusal.{Refusal}
 use Rattle.refusal.specs.declared.Refusal.TheVariants.{WrongCount, UnknownPart, StrapOutside, SharedAddress}
-use Rattle.refusal.specs.declared.Verdict.{Verdict}
+use Rattle.refusal.specs.Verdict.{Verdict}
 use Rattle.refusal.specs.Checks.{first_of}
 use Rattle.board.specs.declared.Place.{Place}
 use Rattle.board.specs.Place.{place_at, placed}

@@ -12,7 +12,7 @@ use base::logic::{and, or};
 use base::number::least;
 use parts::address::share_address;
 use parts::part::{geometry_of, is_part};
-use refusal::{Refusal, Verdict};
+use refusal::Refusal;
 
 // The most chips that a line has.
 pub const PLACES: usize = 4;
@@ -99,21 +99,21 @@ fn any_shared_address(n: usize, places: [Place; PLACES]) -> bool
 
 // Checks 1 to 4 of set-up, in that order over all chips. Places past the count are ignored.
 #[tactic(auto, unfolding(crate::specs::Board::board_verdict), using(crate::proofs::Laws::placed_most))]
-pub fn board_verdict(count: usize, places: [Place; PLACES]) -> Verdict
+pub fn board_verdict(count: usize, places: [Place; PLACES]) -> Result<(), Refusal>
     ensures { result ≡ board_verdict count places }
 {
     let n = placed(count);
     if wrong_count(count) {
-        return Verdict::Refused(Refusal::WrongCount);
+        return Err(Refusal::WrongCount);
     }
     if any_unknown_part(n, places) {
-        return Verdict::Refused(Refusal::UnknownPart);
+        return Err(Refusal::UnknownPart);
     }
     if any_strap_outside(n, places) {
-        return Verdict::Refused(Refusal::StrapOutside);
+        return Err(Refusal::StrapOutside);
     }
     if any_shared_address(n, places) {
-        return Verdict::Refused(Refusal::SharedAddress);
+        return Err(Refusal::SharedAddress);
     }
-    Verdict::Passed
+    Ok(())
 }

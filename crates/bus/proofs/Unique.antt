@@ -4,7 +4,7 @@ use Rattle.base.proofs.Unique.{Unique, UniqueOutcome, same}
 use Prim.Native.Nat.{ℕ}
 use mathlib.Core.List.{List}
 use Rattle.bus.specs.declared.Stepped.{Stepped}
-use Rattle.refusal.specs.declared.Verdict.{Verdict}
+use Rattle.refusal.specs.Verdict.{Verdict}
 use Rattle.bus.specs.Run.{Progress, outcome}
 use Rattle.bus.proofs.Bus.empty.Kinds as empty_kinds
 use Rattle.bus.proofs.Bus.empty.Reads as empty_reads

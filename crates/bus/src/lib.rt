@@ -17,7 +17,7 @@ use decode::{Addressed, addressed_of, decode_verdict, event_of};
 use line::{line_reply, line_verdict};
 use lineup::places_of;
 use load::PAGE_MOST;
-use refusal::{Answer, Refusal, Verdict, answer_word};
+use refusal::{Refusal, answer_word};
 
 // `started`: a Start is remembered, so that the next byte sent is an address byte, whoever is busy (request E8). It stands last, so that the chips
 // lie where copying them is cheap.
@@ -32,19 +32,19 @@ pub struct Bus {
 #[derive(Clone, Copy)]
 pub struct SetUp {
     pub bus: Bus,
-    pub verdict: Verdict,
+    pub verdict: Result<(), Refusal>,
 }
 
 #[derive(Clone, Copy)]
 pub struct Stepped {
     pub bus: Bus,
-    pub answer: Answer,
+    pub answer: Result<u8, Refusal>,
 }
 
 #[derive(Clone, Copy)]
 pub struct Ran {
     pub bus: Bus,
-    pub verdict: Verdict,
+    pub verdict: Result<(), Refusal>,
 }
 
 impl Bus {
@@ -66,18 +66,18 @@ impl Bus {
     {
         let verdict = set_up_verdict(count, places, array, security);
         match verdict {
-            Verdict::Refused(refusal) => SetUp {
+            Err(refusal) => SetUp {
                 bus: Bus::empty(),
-                verdict: Verdict::Refused(refusal),
+                verdict: Err(refusal),
             },
-            Verdict::Passed => SetUp {
+            Ok(()) => SetUp {
                 bus: Bus {
                     count,
                     chips: fresh_chips(count, places),
                     values: [0; PAGE_MOST],
                     started: false,
                 },
-                verdict: Verdict::Passed,
+                verdict: Ok(()),
             },
         }
     }
@@ -90,31 +90,31 @@ impl Bus {
     }
 
     // Checks 10 and 5, which a step, a run and a page question begin with.
-    pub fn entry_verdict(self, array: &[u8], security: &[u8]) -> Verdict
+    pub fn entry_verdict(self, array: &[u8], security: &[u8]) -> Result<(), Refusal>
         ensures { result ≡ first_of (entry_checks self array.now security.now) }
     {
         if !self.well_formed() {
-            return Verdict::Refused(Refusal::NotWellFormed);
+            return Err(Refusal::NotWellFormed);
         }
         let chips = self.chips;
         if wrong_length(self.count, places_of(chips), array.len(), security.len()) {
-            return Verdict::Refused(Refusal::WrongLength);
+            return Err(Refusal::WrongLength);
         }
-        Verdict::Passed
+        Ok(())
     }
 
     // Checks 10, 5 and 7 of a chip that is named by its number alone.
-    pub fn chip_verdict(self, array: &[u8], security: &[u8], chip: usize) -> Verdict
+    pub fn chip_verdict(self, array: &[u8], security: &[u8], chip: usize) -> Result<(), Refusal>
         ensures { result ≡ first_of (chip_checks self array.now security.now chip) }
     {
         let verdict = self.entry_verdict(array, security);
         match verdict {
-            Verdict::Refused(refusal) => Verdict::Refused(refusal),
-            Verdict::Passed => {
+            Err(refusal) => Err(refusal),
+            Ok(()) => {
                 if self.count <= chip {
-                    Verdict::Refused(Refusal::WrongValue)
+                    Err(Refusal::WrongValue)
                 } else {
-                    Verdict::Passed
+                    Ok(())
                 }
             }
         }
@@ -131,7 +131,7 @@ impl Bus {
     // The same for a caller that has the verdict of checks 10 and 5 already.
     pub fn step_given(
         self,
-        entry: Verdict,
+        entry: Result<(), Refusal>,
         array: &mut [u8],
         security: &mut [u8],
         word: u16,
@@ -178,34 +178,34 @@ impl Bus {
         if answers.len() < events.len() {
             return Ran {
                 bus: self,
-                verdict: Verdict::Refused(Refusal::ShortBuffer),
+                verdict: Err(Refusal::ShortBuffer),
             };
         }
         let verdict = self.entry_verdict(array, security);
         match verdict {
-            Verdict::Refused(refusal) => Ran {
+            Err(refusal) => Ran {
                 bus: self,
-                verdict: Verdict::Refused(refusal),
+                verdict: Err(refusal),
             },
-            Verdict::Passed => Ran {
+            Ok(()) => Ran {
                 bus: run_all(self, array, security, events, answers),
-                verdict: Verdict::Passed,
+                verdict: Ok(()),
             },
         }
     }
 }
 
-fn set_up_verdict(count: usize, places: [Place; PLACES], array: &[u8], security: &[u8]) -> Verdict
+fn set_up_verdict(count: usize, places: [Place; PLACES], array: &[u8], security: &[u8]) -> Result<(), Refusal>
     ensures { result ≡ first_of (set_up_checks count places array.now security.now) }
 {
     let verdict = board_verdict(count, places);
     match verdict {
-        Verdict::Refused(refusal) => Verdict::Refused(refusal),
-        Verdict::Passed => {
+        Err(refusal) => Err(refusal),
+        Ok(()) => {
             if wrong_length(count, places, array.len(), security.len()) {
-                Verdict::Refused(Refusal::WrongLength)
+                Err(Refusal::WrongLength)
             } else {
-                Verdict::Passed
+                Ok(())
             }
         }
     }
@@ -227,13 +227,13 @@ fn fresh_chips(count: usize, places: [Place; PLACES]) -> [Chip; PLACES]
 }
 
 // Checks 6, 7, 12 and 8.
-fn event_verdict(count: usize, started: bool, chips: [Chip; PLACES], word: u16) -> Verdict
+fn event_verdict(count: usize, started: bool, chips: [Chip; PLACES], word: u16) -> Result<(), Refusal>
     ensures { result ≡ first_of (event_checks (bus_with count started chips []) word) }
 {
     let verdict = decode_verdict(count, word);
     match verdict {
-        Verdict::Refused(refusal) => Verdict::Refused(refusal),
-        Verdict::Passed => line_verdict(addressed_of(started, word), count, chips),
+        Err(refusal) => Err(refusal),
+        Ok(()) => line_verdict(addressed_of(started, word), count, chips),
     }
 }
 
@@ -256,7 +256,7 @@ fn remembers(event: Event, started: bool) -> bool
 #[derive(Clone, Copy)]
 struct Done {
     chips: [Chip; PLACES],
-    answer: Answer,
+    answer: Result<u8, Refusal>,
     started: bool,
 }
 
@@ -277,7 +277,7 @@ fn played(
     let event = event_of(addressed);
     Done {
         chips: next,
-        answer: Answer::Done(line_reply(event, said)),
+        answer: Ok(line_reply(event, said)),
         started: remembers(event, started),
     }
 }
@@ -296,12 +296,12 @@ fn event(
 {
     let verdict = event_verdict(count, started, chips, word);
     match verdict {
-        Verdict::Refused(refusal) => Done {
+        Err(refusal) => Done {
             chips,
-            answer: Answer::Refused(refusal),
+            answer: Err(refusal),
             started,
         },
-        Verdict::Passed => played(
+        Ok(()) => played(
             addressed_of(started, word),
             count,
             started,
@@ -315,7 +315,7 @@ fn event(
 
 // The same, given what the checks at entry say.
 fn given(
-    entry: Verdict,
+    entry: Result<(), Refusal>,
     count: usize,
     started: bool,
     chips: [Chip; PLACES],
@@ -327,12 +327,12 @@ fn given(
     ensures { (handed count result values.new, array.new, security.new) ≡ step_given entry (bus_with count started chips values.old) array.old security.old word }
 {
     match entry {
-        Verdict::Refused(refusal) => Done {
+        Err(refusal) => Done {
             chips,
-            answer: Answer::Refused(refusal),
+            answer: Err(refusal),
             started,
         },
-        Verdict::Passed => event(count, started, chips, values, array, security, word),
+        Ok(()) => event(count, started, chips, values, array, security, word),
     }
 }
 
@@ -349,7 +349,7 @@ fn run_all(
     let mut next = bus;
     let mut i: usize = 0;
     while i < events.len() {
-        let stepped = next.step_given(Verdict::Passed, array, security, events[i]);
+        let stepped = next.step_given(Ok(()), array, security, events[i]);
         let answer = stepped.answer;
         let after = stepped.bus;
         answers[i] = answer_word(answer);

@@ -11,9 +11,8 @@ use lib.Seq.{take_at, drop_at, drop-drop}
 use borrow.Author.Tests.{le-leb, leb-true, leb-false}
 use Rattle.base.specs.Fold.{up_to}
 use Rattle.base.specs.Store.{patched}
-use Rattle.refusal.specs.declared.Answer.{Answer}
-use Rattle.refusal.specs.declared.Verdict.{Verdict}
-use Rattle.refusal.specs.declared.Verdict.TheVariants.{Passed, Refused}
+use Rattle.refusal.specs.Verdict.{Verdict, Answer}
+use Rattle.std.specs.Prelude.{Ok, Err}
 use Rattle.refusal.specs.Refusal.{answer_word}
 use Rattle.refusal.specs.Checks.{first_of}
 use Rattle.board.specs.Stores.{WithStores, array_of, security_of}
@@ -44,8 +43,8 @@ given_is_step entry bus array security word is = ap (λ (v : Verdict). step_give
 -- and leaves it as it was: one that is refused changes nothing, and an event keeps what they check
 verdict_stays : (entry : Verdict) (bus : Bus) (array security : List ℕ) (word : ℕ) → OfItsType bus → first_of (entry_checks bus array security) ≡ entry
     → let next = step_given entry bus array security word in (first_of (entry_checks next.0.bus (array_of next) (security_of next)) ≡ entry) × OfItsType next.0.bus
-verdict_stays Passed bus array security word typed is = let kept = event_keeps bus array security word typed is in (kept.enters, kept.typed)
-verdict_stays (Refused refusal) bus array security word typed is = (is, typed)
+verdict_stays (Ok tt) bus array security word typed is = let kept = event_keeps bus array security word typed is in (kept.enters, kept.typed)
+verdict_stays (Err refusal) bus array security word typed is = (is, typed)
 
 -- ---- the answers in the buffer
 module _ (buffer said : List ℕ) where

@@ -1,7 +1,7 @@
 -- What is pending in a conversation: the event that is to be played next, if there is one.
 use Rattle.std.specs.Prelude.{ℕ, ◌+◌, Bool, true, false, cond, List, leb, length}
 use Rattle.base.specs.Store.{patched}
-use Rattle.refusal.specs.declared.Answer.{Answer}
+use Rattle.refusal.specs.Verdict.{Answer}
 use Rattle.refusal.specs.Refusal.{answer_word}
 use Rattle.transcript.specs.declared.frame.Frame.{Frame}
 use Rattle.transcript.specs.declared.frame.Frame.TheVariants.{Event, Malformed, End}

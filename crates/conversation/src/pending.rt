@@ -11,7 +11,7 @@ use crate::Heard;
 use crate::tape::text_end;
 use base::logic::and;
 use print::{PRINTED_BYTES, closing, printed};
-use refusal::{Answer, answer_word};
+use refusal::{Refusal, answer_word};
 use transcript::digit::{DIGITS, digit_of};
 use transcript::frame::{FRAME_BYTES, Frame, MALFORMED};
 
@@ -114,7 +114,7 @@ pub fn pending_at(frame: Frame, text: &[u8], at: usize, said: &mut [u8], written
 // The answer to the event is noted, and what stands at the place after it is pending: the reader's next frame.
 pub fn next_pending(
     pending: Pending,
-    answer: Answer,
+    answer: Result<u8, Refusal>,
     frame: Frame,
     text: &[u8],
     said: &mut [u8],

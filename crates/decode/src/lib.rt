@@ -10,7 +10,7 @@ ghost use Rattle.decode.specs.Decode.{kind_of, value_of, unknown_kind, value_all
 use base::logic::and;
 use base::word::BYTE;
 use chip::event::Event;
-use refusal::{Refusal, Verdict};
+use refusal::Refusal;
 
 // The kinds.
 const START: u8 = 1;
@@ -73,17 +73,17 @@ fn value_allowed(count: usize, kind: u8, value: u8) -> bool
 }
 
 // Checks 6 and 7 of a step.
-pub fn decode_verdict(count: usize, word: u16) -> Verdict
+pub fn decode_verdict(count: usize, word: u16) -> Result<(), Refusal>
     ensures { result ≡ first_of (decode_checks count word) }
 {
     let kind = kind_of(word);
     if unknown_kind(kind) {
-        return Verdict::Refused(Refusal::UnknownKind);
+        return Err(Refusal::UnknownKind);
     }
     if !value_allowed(count, kind, value_of(word)) {
-        return Verdict::Refused(Refusal::WrongValue);
+        return Err(Refusal::WrongValue);
     }
-    Verdict::Passed
+    Ok(())
 }
 
 // A byte sent while a Start is remembered is the first after it (request E8).

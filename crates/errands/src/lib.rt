@@ -18,7 +18,7 @@ use image::loading::load;
 use image::saving::save;
 use lineup::places_of;
 use pages::{page, page_verdict};
-use refusal::{Refusal, Verdict};
+use refusal::Refusal;
 use status::{Status, greatest};
 use std::env::{Env, FillError};
 use telling::{tell_failure, tell_no_page, tell_refusal, tell_too_long};
@@ -96,10 +96,10 @@ fn is_done(ending: Ending) -> bool {
 }
 
 // What is refused is told, with the line of the file where one is at fault.
-fn ending_of(rt: &HostRuntime, name: &[u8], line: usize, verdict: Verdict) -> Ending {
+fn ending_of(rt: &HostRuntime, name: &[u8], line: usize, verdict: Result<(), Refusal>) -> Ending {
     match verdict {
-        Verdict::Passed => Ending::Done,
-        Verdict::Refused(refusal) => {
+        Ok(()) => Ending::Done,
+        Err(refusal) => {
             tell_refusal(rt, name, line, refusal);
             Ending::Refused(refusal)
         }
@@ -168,8 +168,8 @@ fn save_file(
     let saved = save(bus, array, security, chip, text);
     let verdict = saved.verdict;
     match verdict {
-        Verdict::Passed => write_file(rt, path, text, saved.written),
-        Verdict::Refused(refusal) => {
+        Ok(()) => write_file(rt, path, text, saved.written),
+        Err(refusal) => {
             tell_refusal(rt, path, 0, refusal);
             Ending::Refused(refusal)
         }
@@ -221,10 +221,10 @@ fn save_step(
 }
 
 // Chip, store and page must be there.
-fn check_page(rt: &HostRuntime, verdict: Verdict, word: &[u8]) -> Ending {
+fn check_page(rt: &HostRuntime, verdict: Result<(), Refusal>, word: &[u8]) -> Ending {
     match verdict {
-        Verdict::Passed => Ending::Done,
-        Verdict::Refused(refusal) => {
+        Ok(()) => Ending::Done,
+        Err(refusal) => {
             tell_no_page(rt, word, refusal);
             Ending::Refused(refusal)
         }

@@ -1,6 +1,6 @@
 // What goes wrong is told on standard error. Where that takes nothing there is nowhere else to tell it.
 use base::number::least;
-use refusal::{Refusal, number_of};
+use refusal::Refusal;
 use std::io::{Cursor, Error, Write};
 use stream::write_on;
 

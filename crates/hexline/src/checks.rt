@@ -5,7 +5,7 @@ ghost use Rattle.hexline.specs.Checks.{bad_length, unknown_type, past_array, rec
 
 use crate::fields::{DATA, END, UPPER, count_in, first_address, is_framed, kind_in, sum_in};
 use base::logic::{and, or};
-use refusal::{Refusal, Verdict};
+use refusal::Refusal;
 
 // How many data bytes a record of type 04 has.
 const UPPER_BYTES: u8 = 2;
@@ -39,20 +39,20 @@ fn past_array(rest: &[u8], size: usize, upper: u16) -> bool
     )
 }
 
-pub fn record_verdict(rest: &[u8], size: usize, upper: u16) -> Verdict
+pub fn record_verdict(rest: &[u8], size: usize, upper: u16) -> Result<(), Refusal>
     ensures { result ≡ first_of (record_checks size upper rest.now) }
 {
     if or(!is_framed(rest), bad_length(rest)) {
-        return Verdict::Refused(Refusal::BadRecord);
+        return Err(Refusal::BadRecord);
     }
     if sum_in(rest) != 0 {
-        return Verdict::Refused(Refusal::WrongSum);
+        return Err(Refusal::WrongSum);
     }
     if unknown_type(rest) {
-        return Verdict::Refused(Refusal::UnknownType);
+        return Err(Refusal::UnknownType);
     }
     if past_array(rest, size, upper) {
-        return Verdict::Refused(Refusal::PastArray);
+        return Err(Refusal::PastArray);
     }
-    Verdict::Passed
+    Ok(())
 }

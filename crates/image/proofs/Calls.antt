@@ -6,7 +6,7 @@ use mathlib.Core.Path.{◌≡◌, ◌∙◌, sym, ap}
 use lib.ListN.{take}
 use Rattle.base.specs.Every.{AllBytes}
 use Rattle.base.proofs.Call.{Call}
-use Rattle.refusal.specs.declared.Verdict.TheVariants.{Passed}
+use Rattle.std.specs.Prelude.{Ok}
 use Rattle.refusal.specs.Checks.{first_of}
 use Rattle.lineup.specs.Chips.{places_of}
 use Rattle.bus.specs.declared.Bus.{Bus}
@@ -69,9 +69,9 @@ module _ (call : LoadCall) where
 
 -- what a call of `save` wrote, any call of `load` takes, for a chip of the same part, on another board and at another place too; it leaves its
 -- array store with that chip's share exchanged for the one that was saved
-pub a_save_loads_back : (one : SaveCall) → one.result.verdict ≡ Passed → AllBytes (save_array one)
+pub a_save_loads_back : (one : SaveCall) → one.result.verdict ≡ Ok tt → AllBytes (save_array one)
     → (other : LoadCall) → load_text other ≡ text_written one
-    → first_of (chip_checks (load_bus other) (load_array other) (load_security other) (load_chip other)) ≡ Passed
+    → first_of (chip_checks (load_bus other) (load_array other) (load_security other) (load_chip other)) ≡ Ok tt
     → part_at (load_bus other) (load_chip other) ≡ part_at (save_bus one) (save_chip one)
     → (other.result ≡ loaded)
     × (array_left other

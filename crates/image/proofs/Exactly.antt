@@ -8,10 +8,11 @@ use mathlib.Core.List.{List}
 use mathlib.Core.Logic.{◌↔◌, ◌⊎◌, inl, inr, ⊎_elim}
 use mathlib.Core.Path.{◌≡◌, ◌∙◌, refl, sym, ap}
 use Rattle.refusal.specs.declared.Refusal.{Refusal}
-use Rattle.refusal.specs.declared.Verdict.{Verdict}
-use Rattle.refusal.specs.declared.Verdict.TheVariants.{Passed, Refused}
+use Rattle.refusal.specs.Verdict.{Verdict}
+use Rattle.std.specs.Prelude.{Ok, Err}
 use Rattle.refusal.specs.Refusal.{status_of}
-use Rattle.refusal.specs.Checks.{first_of, is_passed}
+use Rattle.refusal.specs.Checks.{first_of}
+use Rattle.std.specs.Result.{is_ok}
 use Rattle.refusal.proofs.Checks.{Checks, distinct, Given, NoneHolds, given_exactly_when, passed_exactly_when, status_passed}
 use Rattle.lineup.specs.Chips.{places_of}
 use Rattle.bus.specs.declared.Bus.{Bus}
@@ -40,8 +41,8 @@ module _ (bus : Bus) (array security : List ℕ) (k : ℕ) (buffer : List ℕ) w
 none_given : (checks : Checks) → distinct checks ≡ true → (n : ℕ) → 0 < n → NoneHolds checks → Given checks n → ⊥
 none_given checks apart n some none given = omega (arith, (given_exactly_when checks apart n some).1 given, (passed_exactly_when checks).1 none)
 
-refused_some : (checks : Checks) (refusal : Refusal) → first_of checks ≡ Refused refusal → NoneHolds checks → ⊥
-refused_some checks refusal said none = false≢true (ap is_passed (sym said ∙ status_passed (first_of checks) ((passed_exactly_when checks).1 none)))
+refused_some : (checks : Checks) (refusal : Refusal) → first_of checks ≡ Err refusal → NoneHolds checks → ⊥
+refused_some checks refusal said none = false≢true (ap is_ok (sym said ∙ status_passed (first_of checks) ((passed_exactly_when checks).1 none)))
 
 -- some record that is read gives a number, by its own first check that fails
 abbrev pub SomeFails : ℕ → List ℕ → ℕ → Type 0
@@ -58,15 +59,15 @@ module _ (bus : Bus) (array security : List ℕ) (k : ℕ) (text : List ℕ) whe
   answer = (load bus array security k text).0
 
   -- what the first checks say, where they refuse; else what is said of the text
-  chip_says : (refusal : Refusal) → first_of checks ≡ Refused refusal → answer.verdict ≡ Refused refusal
+  chip_says : (refusal : Refusal) → first_of checks ≡ Err refusal → answer.verdict ≡ Err refusal
   unfolding load
   chip_says refusal said = ap (λ (verdict : Verdict). (load_by verdict (places_of bus.chips) array k text).0.verdict) said
 
-  text_says : first_of checks ≡ Passed → answer.verdict ≡ text_verdict size text
+  text_says : first_of checks ≡ Ok tt → answer.verdict ≡ text_verdict size text
   text_says passes = go (outcome bus array security k text)
     where
       go : Outcome bus array security k text → answer.verdict ≡ text_verdict size text
-      go (NotReached refusal refused is) = absurd (false≢true (ap is_passed (sym refused ∙ passes)))
+      go (NotReached refusal refused is) = absurd (false≢true (ap is_ok (sym refused ∙ passes)))
       go (NotTaken refusal passed said is) = ap (λ (end : Loaded × List ℕ). end.0.verdict) is ∙ sym said
       go (Stored passed said is) = ap (λ (end : Loaded × List ℕ). end.0.verdict) is ∙ sym said
 
@@ -75,12 +76,12 @@ module _ (bus : Bus) (array security : List ℕ) (k : ℕ) (text : List ℕ) whe
     where
       go : (verdict : Verdict) → first_of checks ≡ verdict
           → (status_of answer.verdict ≡ n) ↔ (Given checks n ⊎ (NoneHolds checks × (status_of (text_verdict size text) ≡ n)))
-      go Passed passes =
+      go (Ok tt) passes =
           let none = (passed_exactly_when checks).0 (ap status_of passes) in (
             λ gives. inr (none, sym (ap status_of (text_says passes)) ∙ gives),
             ⊎_elim (λ given. absurd (none_given checks refl n some none given)) (λ both. ap status_of (text_says passes) ∙ both.1),
           )
-      go (Refused refusal) said = (
+      go (Err refusal) said = (
         λ gives. inl ((given_exactly_when checks refl n some).0 (ap status_of said ∙ sym (ap status_of (chip_says refusal said)) ∙ gives)),
         ⊎_elim
             (λ given. ap status_of (chip_says refusal said) ∙ sym (ap status_of said) ∙ (given_exactly_when checks refl n some).1 given)
@@ -113,10 +114,10 @@ module _ (bus : Bus) (array security : List ℕ) (k : ℕ) (text : List ℕ) whe
   load_passes_exactly_when = (to (first_of checks) refl, from)
     where
       to : (verdict : Verdict) → first_of checks ≡ verdict → status_of answer.verdict ≡ 0 → NoneHolds checks × NoneRefused size text × Complete size text
-      to Passed passes gives =
+      to (Ok tt) passes gives =
           let (none, complete) = (text_passes_exactly_when size text).0 (sym (ap status_of (text_says passes)) ∙ gives) in
           ((passed_exactly_when checks).0 (ap status_of passes), none, complete)
-      to (Refused refusal) said gives = absurd (false≢true (ap is_passed (sym (chip_says refusal said) ∙ status_passed answer.verdict gives)))
+      to (Err refusal) said gives = absurd (false≢true (ap is_ok (sym (chip_says refusal said) ∙ status_passed answer.verdict gives)))
 
       from : NoneHolds checks × NoneRefused size text × Complete size text → status_of answer.verdict ≡ 0
       from (first, none, complete) =
@@ -152,7 +153,7 @@ module _ (bus : Bus) (array security : List ℕ) (k : ℕ) (text : List ℕ) whe
           let verdict = ap (λ (end : Loaded × List ℕ). end.0.verdict) is in
           let first = (passed_exactly_when (chip_checks bus array security k)).0 (ap status_of passed) in
           record {
-            passes = λ gives. absurd (false≢true (ap is_passed (sym verdict ∙ status_passed (load bus array security k text).0.verdict gives)));
+            passes = λ gives. absurd (false≢true (ap is_ok (sym verdict ∙ status_passed (load bus array security k text).0.verdict gives)));
             before = λ n some given. absurd (none_given (chip_checks bus array security k) refl n some first given);
             fails = λ n i some none on given. last ∙ ap (λ (lines : ℕ). lines + 1) (line_at_fault (array_size bus k) text i n some on given);
             behind = λ gives. last;

@@ -9,8 +9,8 @@ use Rattle.base.specs.Every.{FitsByte, AllBytes}
 use Rattle.base.proofs.Every.{every_span}
 use Rattle.parts.specs.Part.{geometry_of}
 use Rattle.parts.proofs.part.Laws.{sound_of}
-use Rattle.refusal.specs.declared.Verdict.{Verdict}
-use Rattle.refusal.specs.declared.Verdict.TheVariants.{Passed, Refused}
+use Rattle.refusal.specs.Verdict.{Verdict}
+use Rattle.std.specs.Prelude.{Ok, Err}
 use Rattle.refusal.specs.Checks.{first_of}
 use Rattle.board.specs.declared.Place.{Place}
 use Rattle.board.specs.Place.{place_at}
@@ -37,11 +37,11 @@ share_at bus array k = array_share (places_of bus.chips) k array
 
 -- saving says what its checks say
 pub says : (verdict : Verdict) (places : List Place) (array : List ℕ) (k : ℕ) (buffer : List ℕ) → (save_by verdict places array k buffer).0.verdict ≡ verdict
-says Passed places array k buffer = refl
-says (Refused refusal) places array k buffer = refl
+says (Ok tt) places array k buffer = refl
+says (Err refusal) places array k buffer = refl
 
-module _ (bus : Bus) (array security : List ℕ) (k : ℕ) (buffer : List ℕ) (passes : (save bus array security k buffer).0.verdict ≡ Passed) where
-  checks_pass : first_of (save_checks bus array security k buffer) ≡ Passed
+module _ (bus : Bus) (array security : List ℕ) (k : ℕ) (buffer : List ℕ) (passes : (save bus array security k buffer).0.verdict ≡ Ok tt) where
+  checks_pass : first_of (save_checks bus array security k buffer) ≡ Ok tt
   unfolding save
   checks_pass = sym (says (first_of (save_checks bus array security k buffer)) (places_of bus.chips) array k buffer) ∙ passes
 
@@ -58,7 +58,7 @@ module _ (bus : Bus) (array security : List ℕ) (k : ℕ) (buffer : List ℕ) (
   written_is : written ≡ saved_text (share_at bus array k)
   written_is = rw saved_as (take-append_seam (saved_text (share_at bus array k)) _)
 
-  pub saved_loads_back : AllBytes array → (bus' : Bus) (array' security' : List ℕ) (k' : ℕ) → first_of (chip_checks bus' array' security' k') ≡ Passed
+  pub saved_loads_back : AllBytes array → (bus' : Bus) (array' security' : List ℕ) (k' : ℕ) → first_of (chip_checks bus' array' security' k') ≡ Ok tt
       → part_at bus' k' ≡ part_at bus k
       → load bus' array' security' k' written ≡ (loaded, with_share (places_of bus'.chips) k' array' (share_at bus array k))
   unfolding load

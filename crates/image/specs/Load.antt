@@ -3,8 +3,8 @@
 use Rattle.std.specs.Prelude.{ℕ, ◌+◌, List, length}
 use Rattle.base.specs.Store.{patched}
 use Rattle.refusal.specs.declared.Refusal.{Refusal}
-use Rattle.refusal.specs.declared.Verdict.{Verdict}
-use Rattle.refusal.specs.declared.Verdict.TheVariants.{Passed, Refused}
+use Rattle.refusal.specs.Verdict.{Verdict}
+use Rattle.std.specs.Prelude.{Ok, Err}
 use Rattle.refusal.specs.Checks.{first_of}
 use Rattle.board.specs.declared.Place.{Place}
 use Rattle.board.specs.Shares.{array_start}
@@ -18,16 +18,16 @@ use Rattle.image.specs.Storing.{stored}
 
 -- done: no line is at fault
 abbrev pub loaded : Loaded
-loaded = record { verdict = Passed; line = 0 }
+loaded = record { verdict = Ok tt; line = 0 }
 
 -- refused at a line of the text, 1 for the first; before any of it is read, 0
 abbrev pub refused_at : Refusal → ℕ → Loaded
-refused_at refusal line = record { verdict = Refused refusal; line = line }
+refused_at refusal line = record { verdict = Err refusal; line = line }
 
 -- one chip's share, by what is said of the text
 abbrev pub share_by : Verdict → List ℕ → List ℕ → Loaded × List ℕ
-share_by Passed text share = (loaded, stored text share)
-share_by (Refused refusal) text share = (refused_at refusal ((scanned (length share) text).lines + 1), share)
+share_by (Ok tt) text share = (loaded, stored text share)
+share_by (Err refusal) text share = (refused_at refusal ((scanned (length share) text).lines + 1), share)
 
 unfoldable pub load_share : List ℕ → List ℕ → Loaded × List ℕ
 load_share text share = share_by (text_verdict (length share) text) text share
@@ -40,8 +40,8 @@ abbrev pub in_place : List Place → ℕ → List ℕ → Loaded × List ℕ →
 in_place places k array (said, share) = (said, with_share places k array share)
 
 abbrev pub load_by : Verdict → List Place → List ℕ → ℕ → List ℕ → Loaded × List ℕ
-load_by Passed places array k text = in_place places k array (load_share text (array_share places k array))
-load_by (Refused refusal) places array k text = (refused_at refusal 0, array)
+load_by (Ok tt) places array k text = in_place places k array (load_share text (array_share places k array))
+load_by (Err refusal) places array k text = (refused_at refusal 0, array)
 
 -- what is answered, and the array store afterwards
 unfoldable pub load : Bus → List ℕ → List ℕ → ℕ → List ℕ → Loaded × List ℕ

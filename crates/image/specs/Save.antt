@@ -3,8 +3,8 @@ use Rattle.std.specs.Prelude.{ℕ, ◌+◌, ◌/◌, Bool, List, [], ◌∷◌, 
 use Rattle.base.specs.Store.{patched}
 use Rattle.refusal.specs.declared.Refusal.{Refusal}
 use Rattle.refusal.specs.declared.Refusal.TheVariants.{ShortText}
-use Rattle.refusal.specs.declared.Verdict.{Verdict}
-use Rattle.refusal.specs.declared.Verdict.TheVariants.{Passed, Refused}
+use Rattle.refusal.specs.Verdict.{Verdict}
+use Rattle.std.specs.Prelude.{Ok, Err}
 use Rattle.refusal.specs.Checks.{first_of}
 use Rattle.board.specs.declared.Place.{Place}
 use Rattle.board.specs.Shares.{figures_at}
@@ -33,11 +33,11 @@ put_rows share buffer =
 
 -- the text stands at the buffer's start
 abbrev pub save_share : List ℕ → List ℕ → Saved × List ℕ
-save_share share buffer = (record { verdict = Passed; written = length (saved_text share) }, patched 0 (saved_text share) buffer)
+save_share share buffer = (record { verdict = Ok tt; written = length (saved_text share) }, patched 0 (saved_text share) buffer)
 
 abbrev pub save_by : Verdict → List Place → List ℕ → ℕ → List ℕ → Saved × List ℕ
-save_by Passed places array k buffer = save_share (array_share places k array) buffer
-save_by (Refused refusal) places array k buffer = (record { verdict = Refused refusal; written = 0 }, buffer)
+save_by (Ok tt) places array k buffer = save_share (array_share places k array) buffer
+save_by (Err refusal) places array k buffer = (record { verdict = Err refusal; written = 0 }, buffer)
 
 -- what is answered, and the text buffer afterwards
 unfoldable pub save : Bus → List ℕ → List ℕ → ℕ → List ℕ → Saved × List ℕ

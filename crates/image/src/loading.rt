@@ -9,12 +9,12 @@ use base::logic::and;
 use bus::Bus;
 use hexline::checks::record_verdict;
 use hexline::fields::{DATA, END, UPPER, kind_in, line_size, put_data, upper_in};
-use refusal::{Refusal, Verdict, is_passed};
+use refusal::Refusal;
 
 // What loading answers, with the line at fault: 1 for the first, 0 where nothing of the text is.
 #[derive(Clone, Copy)]
 pub struct Loaded {
-    pub verdict: Verdict,
+    pub verdict: Result<(), Refusal>,
     pub line: usize,
 }
 
@@ -26,7 +26,7 @@ pub struct Reading {
     pub upper: u16,
     pub lines: usize,
     pub ended: bool,
-    pub verdict: Verdict,
+    pub verdict: Result<(), Refusal>,
 }
 
 fn begun() -> Reading
@@ -37,7 +37,7 @@ fn begun() -> Reading
         upper: 0,
         lines: 0,
         ended: false,
-        verdict: Verdict::Passed,
+        verdict: Ok(()),
     }
 }
 
@@ -46,7 +46,7 @@ fn reads_on(text: &[u8], reading: Reading) -> bool
 {
     let verdict = reading.verdict;
     and(
-        is_passed(verdict),
+        verdict.is_ok(),
         and(!reading.ended, reading.at < text.len()),
     )
 }
@@ -72,19 +72,19 @@ fn next_reading(text: &[u8], size: usize, reading: Reading) -> Reading
     let rest = &text[at..];
     let verdict = record_verdict(rest, size, upper);
     match verdict {
-        Verdict::Refused(refusal) => Reading {
+        Err(refusal) => Reading {
             at,
             upper,
             lines,
             ended: reading.ended,
-            verdict: Verdict::Refused(refusal),
+            verdict: Err(refusal),
         },
-        Verdict::Passed => Reading {
+        Ok(()) => Reading {
             at: at + line_size(rest),
             upper: upper_after(rest, upper),
             lines: lines + 1,
             ended: kind_in(rest) == END,
-            verdict: Verdict::Passed,
+            verdict: Ok(()),
         },
     }
 }
@@ -101,17 +101,17 @@ fn scan(text: &[u8], size: usize) -> Reading
 }
 
 // 24 comes last.
-fn verdict_of(text: &[u8], reading: Reading) -> Verdict
+fn verdict_of(text: &[u8], reading: Reading) -> Result<(), Refusal>
     ensures { result ≡ verdict_of text.now reading }
 {
     let verdict = reading.verdict;
     match verdict {
-        Verdict::Refused(refusal) => Verdict::Refused(refusal),
-        Verdict::Passed => {
+        Err(refusal) => Err(refusal),
+        Ok(()) => {
             if and(reading.ended, reading.at == text.len()) {
-                Verdict::Passed
+                Ok(())
             } else {
-                Verdict::Refused(Refusal::NoEnd)
+                Err(Refusal::NoEnd)
             }
         }
     }
@@ -126,7 +126,7 @@ fn next_storing(text: &[u8], share: &mut [u8], reading: Reading) -> Reading
     let at = reading.at;
     let rest = &text[at..];
     let verdict = next.verdict;
-    if and(is_passed(verdict), kind_in(rest) == DATA) {
+    if and(verdict.is_ok(), kind_in(rest) == DATA) {
         put_data(rest, reading.upper, share);
     }
     next
@@ -148,14 +148,14 @@ fn load_share(text: &[u8], share: &mut [u8]) -> Loaded
     let reading = scan(text, share.len());
     let verdict = verdict_of(text, reading);
     match verdict {
-        Verdict::Refused(refusal) => Loaded {
-            verdict: Verdict::Refused(refusal),
+        Err(refusal) => Loaded {
+            verdict: Err(refusal),
             line: reading.lines + 1,
         },
-        Verdict::Passed => {
+        Ok(()) => {
             store_all(text, share);
             Loaded {
-                verdict: Verdict::Passed,
+                verdict: Ok(()),
                 line: 0,
             }
         }
@@ -168,11 +168,11 @@ pub fn load(bus: Bus, array: &mut [u8], security: &[u8], chip: usize, text: &[u8
 {
     let verdict = bus.chip_verdict(array, security, chip);
     match verdict {
-        Verdict::Refused(refusal) => Loaded {
-            verdict: Verdict::Refused(refusal),
+        Err(refusal) => Loaded {
+            verdict: Err(refusal),
             line: 0,
         },
-        Verdict::Passed => {
+        Ok(()) => {
             let share = share_of(bus, chip);
             let start = share.start;
             let end = share.end;

@@ -12,12 +12,12 @@ use hexline::fields::{DATA, END, UPPER, UPPER_STEP};
 use hexline::writing::put_record;
 use lineup::places_of;
 use parts::part::geometry_of;
-use refusal::{Refusal, Verdict};
+use refusal::Refusal;
 
 // What saving answers, and how many bytes the text has.
 #[derive(Clone, Copy)]
 pub struct Saved {
-    pub verdict: Verdict,
+    pub verdict: Result<(), Refusal>,
     pub written: usize,
 }
 
@@ -114,26 +114,26 @@ fn save_share(share: &[u8], text: &mut [u8]) -> Saved
     let none: [u8; 0] = [];
     put_record(END, 0, &none, text, at);
     Saved {
-        verdict: Verdict::Passed,
+        verdict: Ok(()),
         written: at + END_TEXT,
     }
 }
 
 // Checks 10, 5, 7 and 19.
-fn save_verdict(bus: Bus, array: &[u8], security: &[u8], chip: usize, text: &[u8]) -> Verdict
+fn save_verdict(bus: Bus, array: &[u8], security: &[u8], chip: usize, text: &[u8]) -> Result<(), Refusal>
     ensures { result ≡ first_of (save_checks bus array.now security.now chip text.now) }
 {
     let verdict = bus.chip_verdict(array, security, chip);
     match verdict {
-        Verdict::Refused(refusal) => Verdict::Refused(refusal),
-        Verdict::Passed => {
+        Err(refusal) => Err(refusal),
+        Ok(()) => {
             let chips = bus.chips;
             let places = places_of(chips);
             let place = places[chip];
             if text.len() < saved_size(geometry_of(place.part).array) {
-                Verdict::Refused(Refusal::ShortText)
+                Err(Refusal::ShortText)
             } else {
-                Verdict::Passed
+                Ok(())
             }
         }
     }
@@ -145,11 +145,11 @@ pub fn save(bus: Bus, array: &[u8], security: &[u8], chip: usize, text: &mut [u8
 {
     let verdict = save_verdict(bus, array, security, chip, text);
     match verdict {
-        Verdict::Refused(refusal) => Saved {
-            verdict: Verdict::Refused(refusal),
+        Err(refusal) => Saved {
+            verdict: Err(refusal),
             written: 0,
         },
-        Verdict::Passed => {
+        Ok(()) => {
             let share = share_of(bus, chip);
             let start = share.start;
             let end = share.end;

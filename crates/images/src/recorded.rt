@@ -11,7 +11,7 @@ use files::{Content, read_whole};
 use image::loading::load;
 use image::saving::{Saved, save};
 use placing::layout::Board;
-use refusal::{Verdict, status_of};
+use refusal::status_of;
 use std::io::Print;
 
 // The most bytes of a file, and of what is saved.
@@ -238,8 +238,8 @@ fn loads(
         return false;
     }
     match verdict {
-        Verdict::Passed => saves(rt, name, bus, array, security, text, spare),
-        Verdict::Refused(_) => stays_erased(rt, name, array),
+        Ok(()) => saves(rt, name, bus, array, security, text, spare),
+        Err(_) => stays_erased(rt, name, array),
     }
 }
 
@@ -259,8 +259,8 @@ fn plays(
     let set_up = Bus::set_up(count, places, array, security);
     let verdict = set_up.verdict;
     match verdict {
-        Verdict::Passed => loads(rt, expected, name, set_up.bus, array, security, text, spare),
-        Verdict::Refused(_) => {
+        Ok(()) => loads(rt, expected, name, set_up.bus, array, security, text, spare),
+        Err(_) => {
             tell(rt, name, b": there is no such part\n");
             false
         }

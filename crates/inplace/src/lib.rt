@@ -4,16 +4,16 @@
 ghost use Rattle.inplace.specs.InPlace.{StepsInPlace};
 
 use bus::Bus;
-use refusal::{Answer, Verdict};
+use refusal::Refusal;
 
 // `entry` is the verdict of the bus's entry checks: whoever plays many events asks for it once.
 pub fn step_in_place(
     bus: &mut Bus,
-    entry: Verdict,
+    entry: Result<(), Refusal>,
     array: &mut [u8],
     security: &mut [u8],
     word: u16,
-) -> Answer
+) -> Result<u8, Refusal>
     ensures { StepsInPlace bus.old entry array.old security.old word result bus.new array.new security.new }
 {
     let stepped = (*bus).step_given(entry, array, security, word);

@@ -21,7 +21,7 @@ use decode::{Addressed, event_of, reaches};
 use lineup::controls_of;
 use load::PAGE_MOST;
 use parts::part::geometry_of;
-use refusal::{Refusal, Verdict};
+use refusal::Refusal;
 
 // What the line carries when nobody speaks: to a byte read, and to every other event. Then the two words of a chip.
 const IDLE: u8 = 0xFF;
@@ -75,16 +75,16 @@ fn clash(event: Event, count: usize, chips: [Chip; PLACES]) -> bool
 }
 
 // Checks 12 and 8 of a step.
-pub fn line_verdict(addressed: Addressed, count: usize, chips: [Chip; PLACES]) -> Verdict
+pub fn line_verdict(addressed: Addressed, count: usize, chips: [Chip; PLACES]) -> Result<(), Refusal>
     ensures { result ≡ first_of (line_checks addressed count chips) }
 {
     if not_busy(addressed, chips) {
-        return Verdict::Refused(Refusal::NotBusy);
+        return Err(Refusal::NotBusy);
     }
     if clash(event_of(addressed), count, chips) {
-        return Verdict::Refused(Refusal::Clash);
+        return Err(Refusal::Clash);
     }
-    Verdict::Passed
+    Ok(())
 }
 
 // An acknowledge is heard over a chip that says it is busy.

@@ -26,14 +26,14 @@ use Rattle.chip.specs.declared.Chip.{Chip}
 use Rattle.wellformed.specs.Wellformed.{heeds_start}
 use Rattle.wellformed.specs.Wellformed as chip
 use Rattle.wellformed.specs.Beside.{side_by_side}
-use Rattle.refusal.specs.Checks.{is_passed}
+use Rattle.std.specs.Result.{is_ok}
 use Rattle.board.specs.Place.{placed}
 use Rattle.board.specs.Board.{board_verdict}
 use Rattle.lineup.specs.Chips.{chip_at, control_at, places_of}
 
 -- set-up would pass 1 to 4
 abbrev pub set_up_passes : ℕ → List Chip → Bool
-set_up_passes count chips = is_passed (board_verdict count (places_of chips))
+set_up_passes count chips = is_ok (board_verdict count (places_of chips))
 
 -- every counter and load position is inside its region, a busy chip is not chosen, only a chip taking data bytes holds a load, the next byte runs
 -- on, and every register's unused bits and ECS are 0

@@ -11,7 +11,6 @@ use base::logic::and;
 use board::{PLACES, Place, board_verdict, placed};
 use chip::Chip;
 use control::Control;
-use refusal::is_passed;
 use wellformed::beside::side_by_side;
 use wellformed::heeds_start;
 
@@ -116,7 +115,7 @@ pub fn well_formed(count: usize, started: bool, chips: [Chip; PLACES]) -> bool
 {
     let n = placed(count);
     let controls = controls_of(chips);
-    let set_up = is_passed(board_verdict(count, places_of(chips)));
+    let set_up = board_verdict(count, places_of(chips)).is_ok();
     let beside = and(chips_apart(n, controls), chips_heed(n, started, controls));
     and(set_up, and(chips_fit(n, chips), beside))
 }

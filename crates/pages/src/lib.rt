@@ -14,7 +14,7 @@ use board::{PLACES, Place};
 use bus::Bus;
 use lineup::places_of;
 use parts::part::geometry_of;
-use refusal::{Refusal, Verdict, is_passed};
+use refusal::Refusal;
 
 // The number of the array store; the security store is 1.
 const ARRAY: u8 = 0;
@@ -53,18 +53,18 @@ pub fn page_verdict(
     chip: usize,
     store: u8,
     page: usize,
-) -> Verdict
+) -> Result<(), Refusal>
     ensures { result ≡ page_verdict bus array.now security.now chip store page }
 {
     let verdict = bus.entry_verdict(array, security);
     match verdict {
-        Verdict::Refused(refusal) => Verdict::Refused(refusal),
-        Verdict::Passed => {
+        Err(refusal) => Err(refusal),
+        Ok(()) => {
             let chips = bus.chips;
             if page_exists(bus.count, places_of(chips), chip, store, page) {
-                Verdict::Passed
+                Ok(())
             } else {
-                Verdict::Refused(Refusal::WrongValue)
+                Err(Refusal::WrongValue)
             }
         }
     }
@@ -102,7 +102,7 @@ pub fn page<'a>(
 ) -> &'a [u8]
     ensures { Shows (page_shown bus array.entry security.entry chip store page) result }
 {
-    if is_passed(page_verdict(bus, array, security, chip, store, page)) {
+    if page_verdict(bus, array, security, chip, store, page).is_ok() {
         let chips = bus.chips;
         let places = places_of(chips);
         let place = places[chip];

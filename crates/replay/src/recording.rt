@@ -8,7 +8,7 @@ use factory::{erased_arrays, erased_registers, mark_serials};
 use files::read_whole;
 use placing::layout::Board;
 use print::{PRINTED_BYTES, closing};
-use refusal::{Verdict, number_of};
+use refusal::{};
 use std::io::Print;
 
 // A transcript, and the answers to it, have fewer bytes than these.
@@ -84,14 +84,14 @@ fn answers_on(
     let verdict = set_up.verdict;
     let bus = set_up.bus;
     match verdict {
-        Verdict::Refused(refusal) => {
+        Err(refusal) => {
             let line = closing(number_of(refusal));
             if PRINTED_BYTES <= said.len() {
                 said[0..PRINTED_BYTES].copy_from_slice(&line);
             }
             PRINTED_BYTES
         }
-        Verdict::Passed => answer_all(bus, array, security, tape, filled, said).written,
+        Ok(()) => answer_all(bus, array, security, tape, filled, said).written,
     }
 }
 

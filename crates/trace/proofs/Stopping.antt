@@ -29,7 +29,7 @@ use Rattle.chip.specs.declared.Chip.{Chip}
 use Rattle.chip.specs.Chip.{stop}
 use Rattle.chip.specs.Chip as chip
 use Rattle.chip.specs.declared.event.Event.TheVariants as event
-use Rattle.refusal.specs.declared.Verdict.TheVariants.{Passed}
+use Rattle.std.specs.Prelude.{Ok}
 use Rattle.refusal.specs.Checks.{first_of}
 use Rattle.decode.specs.Decode.{addressed_of}
 use Rattle.lineup.specs.Chips.{chip_at, control_at, places_of}
@@ -143,7 +143,7 @@ carried P {next = next} {a = a} {kept = kept} {s = s} chips arrays securities ho
     (subst⁻¹ (λ (x : List ℕ). P next kept x) securities holds))
 
 -- and of the bus: each chip that was not busy, on its own shares of the two stores
-pub a_stop_of_the_bus_is_told : (bus : Bus) (array security : List ℕ) → OfItsType bus → first_of (step_checks bus array security 0x0200) ≡ Passed
+pub a_stop_of_the_bus_is_told : (bus : Bus) (array security : List ℕ) → OfItsType bus → first_of (step_checks bus array security 0x0200) ≡ Ok tt
     → (i : ℕ) → i < bus.count → is_busy (control_at bus.chips i).phase ≡ false
     → let after = step bus array security 0x0200 in
     let places = places_of bus.chips in
@@ -188,7 +188,7 @@ pub record Ended (bus : Bus) (array security : List ℕ) (i : ℕ) : Type 0 wher
       Told (ending_of (chip_at bus.chips i)) (control_at bus.chips i) (chip_at bus.chips i).span bus.values (array_share places i array) (security_share places i security)
       (control_at after.0.bus.chips i, array_share places i after.1, security_share places i after.2)
 
-pub the_partner_ends_as_told : (bus : Bus) (array security : List ℕ) → OfItsType bus → first_of (step_checks bus array security 0x0200) ≡ Passed
+pub the_partner_ends_as_told : (bus : Bus) (array security : List ℕ) → OfItsType bus → first_of (step_checks bus array security 0x0200) ≡ Ok tt
     → (i : ℕ) → i < bus.count → is_partner (control_at bus.chips i).phase ≡ true → Ended bus array security i
 unfolding role_of
 the_partner_ends_as_told bus array security typed passes i below partner =

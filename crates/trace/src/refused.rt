@@ -1,7 +1,7 @@
 // An event that was refused, as a draft: its name, and why it was refused.
 use crate::draft::pick;
 use chip::event::Event;
-use refusal::{Refusal, number_of};
+use refusal::Refusal;
 
 // Where the kind is none, the event has no name.
 fn name_number(event: Event, status: u8) -> usize {

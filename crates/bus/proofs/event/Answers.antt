@@ -1,5 +1,5 @@
 -- What the checks say decides: refused, or played to the chips that it addresses.
-use Rattle.refusal.specs.declared.Verdict.{Verdict}
+use Rattle.refusal.specs.Verdict.{Verdict}
 use Rattle.bus.specs.Step.{step_by, event}
 use Rattle.decode.specs.declared.Addressed.{Addressed}
 use Rattle.bus.specs.Step.{bus_with, played}

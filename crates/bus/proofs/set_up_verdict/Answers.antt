@@ -1,6 +1,6 @@
 -- The board's checks first; where they pass, the lengths.
 use Rattle.refusal.specs.declared.Refusal.TheVariants.{WrongLength}
-use Rattle.refusal.specs.declared.Verdict.TheVariants.{Passed, Refused}
+use Rattle.std.specs.Prelude.{Ok, Err}
 use Rattle.board.specs.Shares.{wrong_length}
 use mathlib.Core.Bool.{Bool, cond}
 use mathlib.Core.List.{[], ◌∷◌}
@@ -23,11 +23,11 @@ unfolding board_verdict
 returns-then-wrong_length c = let a = c.args in
     let lengths = wrong_length a.count a.places (length a.array.now) (length a.security.now) in
     sym (passed_first (board_checks a.count a.places) ((lengths, WrongLength) ∷ []) (sym c.board_verdict-verdict.ensures ∙ c.in-Passed.is)
-    ∙ ap (λ (wrong : Bool). cond wrong (Refused WrongLength) Passed) (sym c.wrong_length.ensures ∙ c.if-wrong_length.true))
+    ∙ ap (λ (wrong : Bool). cond wrong (Err WrongLength) (Ok tt)) (sym c.wrong_length.ensures ∙ c.if-wrong_length.true))
 
 pub returns-else-wrong_length : goal.returns-else-wrong_length
 unfolding board_verdict
 returns-else-wrong_length c = let a = c.args in
     let lengths = wrong_length a.count a.places (length a.array.now) (length a.security.now) in
     sym (passed_first (board_checks a.count a.places) ((lengths, WrongLength) ∷ []) (sym c.board_verdict-verdict.ensures ∙ c.in-Passed.is)
-    ∙ ap (λ (wrong : Bool). cond wrong (Refused WrongLength) Passed) (sym c.wrong_length.ensures ∙ c.if-wrong_length.false))
+    ∙ ap (λ (wrong : Bool). cond wrong (Err WrongLength) (Ok tt)) (sym c.wrong_length.ensures ∙ c.if-wrong_length.false))

@@ -11,4 +11,4 @@ unfolding well_formed
 returns c =
     let a = c.args in
     let most = placed_most a.count in
-    rw (c.and-2.ensures, c.and.ensures, c.chips_fit.ensures, c.and-beside.ensures, c.chips_heed.ensures, c.chips_apart.ensures, c.is_passed-set_up.ensures, c.board_verdict.ensures, c.places_of.ensures, c.controls_of-controls.ensures, c.placed-n.ensures, beside_chips a.chips _ most, heed_chips a.started a.chips _ most)
+    rw (c.and-2.ensures, c.and.ensures, c.chips_fit.ensures, c.and-beside.ensures, c.chips_heed.ensures, c.chips_apart.ensures, c.is_ok-set_up.ensures.value, c.board_verdict.ensures, c.places_of.ensures, c.controls_of-controls.ensures, c.placed-n.ensures, beside_chips a.chips _ most, heed_chips a.started a.chips _ most)

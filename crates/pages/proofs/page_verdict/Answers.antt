@@ -1,6 +1,6 @@
 -- The entry checks first; where they pass, chip, store and page.
 use Rattle.refusal.specs.declared.Refusal.TheVariants.{WrongValue}
-use Rattle.refusal.specs.declared.Verdict.TheVariants.{Passed, Refused}
+use Rattle.std.specs.Prelude.{Ok, Err}
 use Rattle.refusal.proofs.Checks.{refused_first, passed_first}
 use Rattle.lineup.specs.Chips.{places_of}
 use Rattle.board.specs.declared.Place.{Place}
@@ -28,7 +28,7 @@ returns-then-page_exists c = let a = c.args in
     let there : page_exists a.bus.count (places_of a.bus.chips) a.chip a.store a.page ≡ true =
     ap (λ (ps : List Place). page_exists a.bus.count ps a.chip a.store a.page) (sym c.places_of.ensures) ∙ sym c.page_exists.ensures ∙ c.if-page_exists.true in
     sym (passed_first (entry_checks a.bus a.array.now a.security.now) ((not (page_exists a.bus.count (places_of a.bus.chips) a.chip a.store a.page), WrongValue) ∷ []) (sym c.entry_verdict-verdict.ensures ∙ c.in-Passed.is)
-    ∙ ap (λ (b : Bool). cond (not b) (Refused WrongValue) Passed) there)
+    ∙ ap (λ (b : Bool). cond (not b) (Err WrongValue) (Ok tt)) there)
 
 pub returns-else-page_exists : goal.returns-else-page_exists
 unfolding page_verdict
@@ -36,4 +36,4 @@ returns-else-page_exists c = let a = c.args in
     let there : page_exists a.bus.count (places_of a.bus.chips) a.chip a.store a.page ≡ false =
     ap (λ (ps : List Place). page_exists a.bus.count ps a.chip a.store a.page) (sym c.places_of.ensures) ∙ sym c.page_exists.ensures ∙ c.if-page_exists.false in
     sym (passed_first (entry_checks a.bus a.array.now a.security.now) ((not (page_exists a.bus.count (places_of a.bus.chips) a.chip a.store a.page), WrongValue) ∷ []) (sym c.entry_verdict-verdict.ensures ∙ c.in-Passed.is)
-    ∙ ap (λ (b : Bool). cond (not b) (Refused WrongValue) Passed) there)
+    ∙ ap (λ (b : Bool). cond (not b) (Err WrongValue) (Ok tt)) there)

@@ -1,8 +1,8 @@
 -- Check 11, then the entry checks: the first that fails is the answer. Where all pass, one event after the other (run_all).
 use borrow.Author.Tests.{lt-ltb, le-ltb}
 use Rattle.refusal.specs.declared.Refusal.TheVariants.{ShortBuffer}
-use Rattle.refusal.specs.declared.Verdict.{Verdict}
-use Rattle.refusal.specs.declared.Verdict.TheVariants.{Passed, Refused}
+use Rattle.refusal.specs.Verdict.{Verdict}
+use Rattle.std.specs.Prelude.{Ok, Err}
 use Rattle.refusal.specs.Checks.{first_of}
 use Rattle.bus.specs.Step.{entry_checks}
 use Rattle.bus.specs.Run.{Progress, run_by, run}
@@ -17,7 +17,7 @@ use Rattle.bus.proofs.Bus.run.Goals as goal
 -- what a call answers, by whether its buffer is short
 abbrev answer : Bus → List ℕ → List ℕ → List ℕ → List ℕ → Bool → Verdict × Progress
 answer bus array security events answers short =
-    run_by (cond short (Refused ShortBuffer) (first_of (entry_checks bus array security))) events (bus, array, security, answers)
+    run_by (cond short (Err ShortBuffer) (first_of (entry_checks bus array security))) events (bus, array, security, answers)
 
 pub returns-then-answers-events : goal.returns-then-answers-events
 unfolding run
@@ -36,6 +36,6 @@ pub returns-in-Passed : goal.returns-in-Passed
 unfolding run
 returns-in-Passed c =
     let a = c.args in
-    ap (λ (progress : Progress). (Passed, progress)) c.run_all.ensures
+    ap (λ (progress : Progress). ((Ok tt), progress)) c.run_all.ensures
     ∙ ap (λ (v : Verdict). run_by v a.events.now (a.self, a.array.now, a.security.now, a.answers.now)) (sym c.in-Passed.is ∙ c.entry_verdict-verdict.ensures)
     ∙ ap (answer a.self a.array.now a.security.now a.events.now a.answers.now) (sym (le-ltb _ _ c.if-answers-events.false))

@@ -1,5 +1,5 @@
 -- What the checks say decides.
-use Rattle.refusal.specs.declared.Verdict.{Verdict}
+use Rattle.refusal.specs.Verdict.{Verdict}
 use Rattle.bus.specs.Setup.{set_up_by, set_up}
 use mathlib.Core.Path.{◌∙◌, ap, sym}
 use borrow.Author.Rules.{rules}

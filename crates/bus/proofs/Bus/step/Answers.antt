@@ -1,6 +1,6 @@
 -- The step that is given the verdict of its own entry checks.
 use mathlib.Core.Path.{◌∙◌, ap}
-use Rattle.refusal.specs.declared.Verdict.{Verdict}
+use Rattle.refusal.specs.Verdict.{Verdict}
 use Rattle.bus.specs.Step.{step_given, step}
 use borrow.Author.Rules.{rules}
 use Rattle.bus.proofs.Bus.step.Goals as goal

@@ -4,7 +4,7 @@ use native.Mathlib.Omega.{arith}
 use mathlib.Core.Path.{◌≡◌, ◌∙◌, sym, ap}
 use lib.ListN.{length}
 use borrow.Author.Rules.{rules}
-use Rattle.refusal.specs.declared.Verdict.TheVariants.{Passed}
+use Rattle.std.specs.Prelude.{Ok}
 use Rattle.refusal.specs.Checks.{first_of}
 use Rattle.lineup.specs.Chips.{places_of}
 use Rattle.bus.specs.Step.{chip_checks}
@@ -17,7 +17,7 @@ use Rattle.image.proofs.loading.load.Goals as goal
 pub slice_bounds-load_share-count : goal.slice_bounds-load_share-count
 slice_bounds-load_share-count c =
     let a = c.args in
-    let passes : first_of (chip_checks a.bus a.array.now a.security.now a.chip) ≡ Passed = sym c.chip_verdict-verdict.ensures ∙ c.in-Passed.is in
+    let passes : first_of (chip_checks a.bus a.array.now a.security.now a.chip) ≡ Ok tt = sym c.chip_verdict-verdict.ensures ∙ c.in-Passed.is in
     let is_named : Named a.bus a.array.now a.security.now a.chip = named a.bus a.array.now a.security.now a.chip passes in
     let place : Lies a.bus a.array.now a.chip c.share_of-share.result = lies a.bus a.array.now a.security.now a.chip is_named c.share_of-share.ensures in
     omega (arith, place.ends)
@@ -25,7 +25,7 @@ slice_bounds-load_share-count c =
 pub slice_bounds-load_share-start : goal.slice_bounds-load_share-start
 slice_bounds-load_share-start c =
     let a = c.args in
-    let passes : first_of (chip_checks a.bus a.array.now a.security.now a.chip) ≡ Passed = sym c.chip_verdict-verdict.ensures ∙ c.in-Passed.is in
+    let passes : first_of (chip_checks a.bus a.array.now a.security.now a.chip) ≡ Ok tt = sym c.chip_verdict-verdict.ensures ∙ c.in-Passed.is in
     let is_named : Named a.bus a.array.now a.security.now a.chip = named a.bus a.array.now a.security.now a.chip passes in
     let place : Lies a.bus a.array.now a.chip c.share_of-share.result = lies a.bus a.array.now a.security.now a.chip is_named c.share_of-share.ensures in
     omega (arith, place.ends)
@@ -33,7 +33,7 @@ slice_bounds-load_share-start c =
 pub slice_bounds-load_share-end : goal.slice_bounds-load_share-end
 slice_bounds-load_share-end c =
     let a = c.args in
-    let passes : first_of (chip_checks a.bus a.array.now a.security.now a.chip) ≡ Passed = sym c.chip_verdict-verdict.ensures ∙ c.in-Passed.is in
+    let passes : first_of (chip_checks a.bus a.array.now a.security.now a.chip) ≡ Ok tt = sym c.chip_verdict-verdict.ensures ∙ c.in-Passed.is in
     let is_named : Named a.bus a.array.now a.security.now a.chip = named a.bus a.array.now a.security.now a.chip passes in
     let place : Lies a.bus a.array.now a.chip c.share_of-share.result = lies a.bus a.array.now a.security.now a.chip is_named c.share_of-share.ensures in
     place.fits
@@ -46,7 +46,7 @@ pub returns-in-Passed : goal.returns-in-Passed
 unfolding load
 returns-in-Passed c =
     let a = c.args in
-    let passes : first_of (chip_checks a.bus a.array.now a.security.now a.chip) ≡ Passed = sym c.chip_verdict-verdict.ensures ∙ c.in-Passed.is in
+    let passes : first_of (chip_checks a.bus a.array.now a.security.now a.chip) ≡ Ok tt = sym c.chip_verdict-verdict.ensures ∙ c.in-Passed.is in
     let is_named : Named a.bus a.array.now a.security.now a.chip = named a.bus a.array.now a.security.now a.chip passes in
     let place : Lies a.bus a.array.now a.chip c.share_of-share.result = lies a.bus a.array.now a.security.now a.chip is_named c.share_of-share.ensures in
     let lent = c.load_share in

@@ -4,7 +4,7 @@ use Prim.Native.Nat.{ℕ}
 use native.Mathlib.Omega.{arith}
 use mathlib.Core.Path.{◌≡◌, ◌∙◌, sym, ap}
 use lib.ListN.{length}
-use Rattle.refusal.specs.declared.Verdict.TheVariants.{Passed, Refused}
+use Rattle.std.specs.Prelude.{Ok, Err}
 use Rattle.image.specs.Reading.{verdict_of, text_verdict}
 use Rattle.image.specs.declared.loading.Reading.{Reading}
 use Rattle.image.specs.Load.{load_share}
@@ -26,7 +26,7 @@ returns-in-Refused c =
     let a = c.args in
     let text = a.text.now in
     let share = a.share.now in
-    let refused : text_verdict (length share) text ≡ Refused _ =
+    let refused : text_verdict (length share) text ≡ Err _ =
     ap (verdict_of text) (sym c.scan-reading.ensures) ∙ sym c.verdict_of-verdict.ensures ∙ c.in-Refused.is
     in
     rw (refused, c.scan-reading.ensures)
@@ -37,7 +37,7 @@ returns-in-Passed c =
     let a = c.args in
     let text = a.text.now in
     let share = a.share.now in
-    let passes : text_verdict (length share) text ≡ Passed =
+    let passes : text_verdict (length share) text ≡ Ok tt =
     ap (verdict_of text) (sym c.scan-reading.ensures) ∙ sym c.verdict_of-verdict.ensures ∙ c.in-Passed.is
     in
     rw (passes, c.store_all.ensures)

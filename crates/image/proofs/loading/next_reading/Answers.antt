@@ -6,8 +6,8 @@ use mathlib.Core.Path.{◌≡◌, ◌∙◌, sym, ap}
 use lib.ListN.{length, take}
 use borrow.Author.Rules.{rules}
 use Rattle.base.proofs.Store.{rest_all}
-use Rattle.refusal.specs.declared.Verdict.{Verdict}
-use Rattle.refusal.specs.declared.Verdict.TheVariants.{Passed, Refused}
+use Rattle.refusal.specs.Verdict.{Verdict}
+use Rattle.std.specs.Prelude.{Ok, Err}
 use Rattle.refusal.specs.Checks.{first_of}
 use Rattle.hexline.specs.Fields.{kind_in, line_size}
 use Rattle.hexline.specs.Checks.{record_checks}
@@ -25,7 +25,7 @@ at_record size text reading said =
 pub overflow_add-result : goal.overflow_add-result
 overflow_add-result c =
     let a = c.args in
-    let passes : verdict_at a.size a.text.now a.reading ≡ Passed =
+    let passes : verdict_at a.size a.text.now a.reading ≡ Ok tt =
     at_record a.size a.text.now a.reading c.record_verdict-verdict.ensures ∙ c.in-Passed.is
     in
     omega (
@@ -39,7 +39,7 @@ pub returns-in-Refused : goal.returns-in-Refused
 unfolding next_reading
 returns-in-Refused c =
     let a = c.args in
-    let refused : verdict_at a.size a.text.now a.reading ≡ Refused _ =
+    let refused : verdict_at a.size a.text.now a.reading ≡ Err _ =
     at_record a.size a.text.now a.reading c.record_verdict-verdict.ensures ∙ c.in-Refused.is
     in
     sym (ap (λ (verdict : Verdict). read_by verdict (rest_at a.text.now a.reading) a.reading) refused)
@@ -48,7 +48,7 @@ pub returns-in-Passed : goal.returns-in-Passed
 unfolding next_reading
 returns-in-Passed c =
     let a = c.args in
-    let passes : verdict_at a.size a.text.now a.reading ≡ Passed =
+    let passes : verdict_at a.size a.text.now a.reading ≡ Ok tt =
     at_record a.size a.text.now a.reading c.record_verdict-verdict.ensures ∙ c.in-Passed.is
     in
     let rest = rest_all a.text.now a.reading.at in

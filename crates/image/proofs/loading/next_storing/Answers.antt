@@ -19,7 +19,7 @@ returns-then-and c =
     let tests : c.and.result ≡ is_stored (length a.share.now) a.text.now a.reading =
     rw (
       c.and.ensures,
-      c.is_passed.ensures,
+      c.is_ok.ensures.value,
       c.next_reading-next.ensures,
       next_passes (length a.share.now) a.text.now a.reading,
       c.kind_in.ensures,
@@ -40,7 +40,7 @@ returns-else-and c =
     let tests : c.and.result ≡ is_stored (length a.share.now) a.text.now a.reading =
     rw (
       c.and.ensures,
-      c.is_passed.ensures,
+      c.is_ok.ensures.value,
       c.next_reading-next.ensures,
       next_passes (length a.share.now) a.text.now a.reading,
       c.kind_in.ensures,

@@ -5,7 +5,7 @@ use mathlib.Core.List.{List}
 use mathlib.Core.Path.{◌≡◌, ◌∙◌, sym, ap}
 use borrow.Author.Rules.{rules}
 use Rattle.parts.proofs.part.Laws.{sound_of}
-use Rattle.refusal.specs.declared.Verdict.TheVariants.{Passed}
+use Rattle.std.specs.Prelude.{Ok}
 use Rattle.refusal.specs.Checks.{first_of}
 use Rattle.board.specs.Place.{place_at}
 use Rattle.lineup.specs.Chips.{places_of}
@@ -18,7 +18,7 @@ use Rattle.image.proofs.saving.save.Goals as goal
 pub slice_bounds-save_share-count : goal.slice_bounds-save_share-count
 slice_bounds-save_share-count c =
     let a = c.args in
-    let passes : first_of (save_checks a.bus a.array.now a.security.now a.chip a.text.now) ≡ Passed = sym c.save_verdict-verdict.ensures ∙ c.in-Passed.is in
+    let passes : first_of (save_checks a.bus a.array.now a.security.now a.chip a.text.now) ≡ Ok tt = sym c.save_verdict-verdict.ensures ∙ c.in-Passed.is in
     let is_named : Named a.bus a.array.now a.security.now a.chip = save_named a.bus a.array.now a.security.now a.chip a.text.now passes in
     let place : Lies a.bus a.array.now a.chip c.share_of-share.result = lies a.bus a.array.now a.security.now a.chip is_named c.share_of-share.ensures in
     omega (arith, place.ends)
@@ -26,7 +26,7 @@ slice_bounds-save_share-count c =
 pub slice_bounds-save_share-start : goal.slice_bounds-save_share-start
 slice_bounds-save_share-start c =
     let a = c.args in
-    let passes : first_of (save_checks a.bus a.array.now a.security.now a.chip a.text.now) ≡ Passed = sym c.save_verdict-verdict.ensures ∙ c.in-Passed.is in
+    let passes : first_of (save_checks a.bus a.array.now a.security.now a.chip a.text.now) ≡ Ok tt = sym c.save_verdict-verdict.ensures ∙ c.in-Passed.is in
     let is_named : Named a.bus a.array.now a.security.now a.chip = save_named a.bus a.array.now a.security.now a.chip a.text.now passes in
     let place : Lies a.bus a.array.now a.chip c.share_of-share.result = lies a.bus a.array.now a.security.now a.chip is_named c.share_of-share.ensures in
     omega (arith, place.ends)
@@ -34,7 +34,7 @@ slice_bounds-save_share-start c =
 pub slice_bounds-save_share-end : goal.slice_bounds-save_share-end
 slice_bounds-save_share-end c =
     let a = c.args in
-    let passes : first_of (save_checks a.bus a.array.now a.security.now a.chip a.text.now) ≡ Passed = sym c.save_verdict-verdict.ensures ∙ c.in-Passed.is in
+    let passes : first_of (save_checks a.bus a.array.now a.security.now a.chip a.text.now) ≡ Ok tt = sym c.save_verdict-verdict.ensures ∙ c.in-Passed.is in
     let is_named : Named a.bus a.array.now a.security.now a.chip = save_named a.bus a.array.now a.security.now a.chip a.text.now passes in
     let place : Lies a.bus a.array.now a.chip c.share_of-share.result = lies a.bus a.array.now a.security.now a.chip is_named c.share_of-share.ensures in
     place.fits
@@ -42,7 +42,7 @@ slice_bounds-save_share-end c =
 pub save_share-requires : goal.save_share-requires
 save_share-requires c =
     let a = c.args in
-    let passes : first_of (save_checks a.bus a.array.now a.security.now a.chip a.text.now) ≡ Passed = sym c.save_verdict-verdict.ensures ∙ c.in-Passed.is in
+    let passes : first_of (save_checks a.bus a.array.now a.security.now a.chip a.text.now) ≡ Ok tt = sym c.save_verdict-verdict.ensures ∙ c.in-Passed.is in
     let is_named : Named a.bus a.array.now a.security.now a.chip = save_named a.bus a.array.now a.security.now a.chip a.text.now passes in
     let place : Lies a.bus a.array.now a.chip c.share_of-share.result = lies a.bus a.array.now a.security.now a.chip is_named c.share_of-share.ensures in
     rw (place.lent, share_length a.bus a.array.now a.security.now a.chip is_named) (
@@ -57,7 +57,7 @@ returns-in-Refused c = rw (sym c.save_verdict-verdict.ensures ∙ c.in-Refused.i
 pub returns-in-Passed : goal.returns-in-Passed
 returns-in-Passed c =
     let a = c.args in
-    let passes : first_of (save_checks a.bus a.array.now a.security.now a.chip a.text.now) ≡ Passed = sym c.save_verdict-verdict.ensures ∙ c.in-Passed.is in
+    let passes : first_of (save_checks a.bus a.array.now a.security.now a.chip a.text.now) ≡ Ok tt = sym c.save_verdict-verdict.ensures ∙ c.in-Passed.is in
     let is_named : Named a.bus a.array.now a.security.now a.chip = save_named a.bus a.array.now a.security.now a.chip a.text.now passes in
     let place : Lies a.bus a.array.now a.chip c.share_of-share.result = lies a.bus a.array.now a.security.now a.chip is_named c.share_of-share.ensures in
     c.save_share.ensures ∙ ap (λ (share : List ℕ). save_share share a.text.now) place.lent

@@ -9,7 +9,7 @@ use borrow.Author.Rules.{rules}
 use borrow.Author.Tests.{lt-ltb, le-ltb}
 use Prim.Native.Nat.{◌<◌}
 use Rattle.refusal.specs.declared.Refusal.TheVariants.{ShortText}
-use Rattle.refusal.specs.declared.Verdict.TheVariants.{Passed, Refused}
+use Rattle.std.specs.Prelude.{Ok, Err}
 use Rattle.refusal.specs.Checks.{first_of}
 use Rattle.refusal.proofs.Checks.{refused_first, passed_first}
 use Rattle.parts.specs.declared.part.Geometry.{Geometry}

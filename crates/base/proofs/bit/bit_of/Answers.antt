@@ -1,5 +1,5 @@
 -- Past the eighth bit a byte has nothing left.
-use Rattle.std.proofs.Common.{ℕ, ◌^◌, ◌<◌, ◌≤◌, arith}
+use Rattle.std.proofs.Common.{◌^◌, ◌<◌, ◌≤◌, arith}
 use native.Mathlib.Nat.{div-eq_of_lt}
 use lib.Pow.{pow_mono}
 use Rattle.base.proofs.bit.bit_of.Goals as goal

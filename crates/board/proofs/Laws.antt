@@ -79,3 +79,6 @@ module _ (count : ℕ) (places : List Place) (four : length places ≡ 4) where
   pub sizes_start : (region : Region) → sizes_of region (take (placed count) places) ≡ start_in region places (placed count)
   unfolding sizes_of
   sizes_start region = up_to-list (λ (at : ℕ) (p : Place). at + size_in region (geometry_of p.part)) 0 places nowhere (placed count) fits
+
+-- what set-up's checks stand on
+pub ruleset of_chips = (placed_most, unknown_chips, outside_chips, alike_chips)

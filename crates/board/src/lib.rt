@@ -67,7 +67,7 @@ fn any_shared_address(chips: &[Place]) -> bool
 }
 
 // Checks 1 to 4 of set-up, in that order over all chips. Places past the count are ignored.
-#[tactic(auto, unfolding(crate::specs::Board::board_verdict), using(crate::proofs::Laws::placed_most, crate::proofs::Laws::unknown_chips, crate::proofs::Laws::outside_chips, crate::proofs::Laws::alike_chips))]
+#[tactic(auto, unfolding(crate::specs::Board::board_verdict), using(crate::proofs::Laws::of_chips))]
 pub fn board_verdict(count: usize, places: [Place; PLACES]) -> Result<(), Refusal>
     ensures { result ≡ board_verdict count places }
 {

@@ -1,7 +1,6 @@
 -- The share so far is the definition's after so many places; the page ends at 2 ^ 32 or below, so no address wraps.
-use Rattle.std.proofs.Common.{◌≡◌, ◌+◌, ◌*◌, ◌≤◌, ◌^◌, arith}
+use Rattle.std.proofs.Common.{get_or, ◌≡◌, ◌+◌, ◌*◌, ◌≤◌, ◌^◌, arith}
 use Rattle.std.proofs.lemmas.List.{set_past}
-use Rattle.std.proofs.lemmas.Grind.{common_steps}
 use Rattle.base.proofs.Fold.{up_none, up_more, up_end}
 use Rattle.parts.proofs.part.Laws.{sound_is}
 use Rattle.regions.proofs.page.Laws.{page_ends}
@@ -22,7 +21,11 @@ pub bounds-values-place : goal.bounds-values-place
 bounds-values-place c = omega (arith, (sound_is _ c.geometry_of-size.ensures).page_most)
 
 pub loop-place-preserved : goal.loop-place-preserved
-loop-place-preserved c = up_more _ _ _ c.loop-place.invariant (grind (arith, common_steps, set_past))
+loop-place-preserved c =
+    -- past the share there is nothing to store to
+    let to = c.page_of.result * c.geometry_of-size.result.page + c.loop-place.place in
+    let past = set_past c.loop-place.share to (get_or c.args.values.now c.loop-place.place 0) in
+    up_more _ _ _ c.loop-place.invariant (grind (arith, past))
 
 pub returns : goal.returns
 unfolding store_page

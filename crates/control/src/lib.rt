@@ -11,7 +11,7 @@ ghost use Rattle.control.specs.Said.{acked, silent, occupied, stays};
 use crate::phase::{Phase, Shown};
 
 // Part and strap are raw numbers, since a malformed state may hold any. The counters are `array` and `security`.
-#[derive(Clone, Copy)]
+#[derive(Clone, Copy, Debug, PartialEq, Eq)]
 pub struct Control {
     pub part: u8,
     pub strap: u8,
@@ -27,7 +27,7 @@ pub struct Control {
 }
 
 // What a chip says to an event. `Occupied`: it is busy, and an address byte names it (request E8).
-#[derive(Clone, Copy)]
+#[derive(Clone, Copy, Debug, PartialEq, Eq)]
 pub enum Said {
     Nothing,
     Ack,
@@ -35,7 +35,7 @@ pub enum Said {
     Byte(u8),
 }
 
-#[derive(Clone, Copy)]
+#[derive(Clone, Copy, Debug, PartialEq, Eq)]
 pub struct Answered {
     pub control: Control,
     pub said: Said,

@@ -2,7 +2,7 @@
 ghost use Rattle.std.specs.Prelude.{◌≡◌};
 ghost use Rattle.control.specs.Phase.{is_busy, takes_data, is_sending, is_taking, is_awaiting, awaits_address};
 
-#[derive(Clone, Copy)]
+#[derive(Clone, Copy, Debug, PartialEq, Eq)]
 pub enum Phase {
     Standby,
     Busy,
@@ -16,7 +16,7 @@ pub enum Phase {
 }
 
 // Which word-address byte comes next: of the array with A16, of a register; the second one with the first.
-#[derive(Clone, Copy)]
+#[derive(Clone, Copy, Debug, PartialEq, Eq)]
 pub enum Word {
     ArrayFirst(bool),
     ArraySecond(bool, u8),
@@ -25,7 +25,7 @@ pub enum Word {
 }
 
 // Where data goes. Lock data knows whether a byte came.
-#[derive(Clone, Copy)]
+#[derive(Clone, Copy, Debug, PartialEq, Eq)]
 pub enum Data {
     ToArray,
     ToSecurity,
@@ -35,7 +35,7 @@ pub enum Data {
 }
 
 // The bytes that came for the configuration register. More than three is one case.
-#[derive(Clone, Copy)]
+#[derive(Clone, Copy, Debug, PartialEq, Eq)]
 pub enum Came {
     Zero,
     One(u8),
@@ -45,7 +45,7 @@ pub enum Came {
 }
 
 // Where a byte that is read comes from: configuration with whether it is byte 1, ID with its place.
-#[derive(Clone, Copy)]
+#[derive(Clone, Copy, Debug, PartialEq, Eq)]
 pub enum Source {
     FromArray,
     FromSecurity,
@@ -55,7 +55,7 @@ pub enum Source {
 }
 
 // What a 1011 read shows.
-#[derive(Clone, Copy)]
+#[derive(Clone, Copy, Debug, PartialEq, Eq)]
 pub enum Shown {
     ShowsSecurity,
     ShowsConfiguration,

@@ -14,7 +14,7 @@ pub const COLON: u8 = b':';
 
 const CR: u8 = 13;
 
-// The types that are read: data, the end, the upper 16 address bits.
+// The types that are read: data, the end, the upper 16 address bits. (Numbers: `kind_in` answers any byte, and its contract stays.)
 pub const DATA: u8 = 0;
 
 pub const END: u8 = 1;

@@ -7,7 +7,7 @@ use mathlib.Core.Path.{◌≡◌, refl, ap}
 use lib.Dec.{eqb, ltb}
 use borrow.Author.Tests.{ltb-true, eqb-true}
 use Rattle.std.specs.Char.{to_ascii_uppercase}
-use Rattle.std.specs.Prelude.{Some, None, unwrap_or, is_some}
+use Rattle.std.specs.Prelude.{Some, None, unwrap_or}
 use Rattle.base.specs.Fold.{up_to}
 use Rattle.base.proofs.Fold.{all_at}
 use Rattle.base.proofs.logic.Laws.{either_if}
@@ -27,10 +27,6 @@ digit_turned b below =
     ap (λ (digit : ℕ). cond (ltb digit 16) (Some digit) None) (eqb-true _ _ (all_at turns_alike 256 b refl below))
 
 -- what is read of an option that a test makes
-pub is_some_by : {A : Type 0} (test : Bool) (x : A) → is_some (cond test (Some x) None) ≡ test
-is_some_by true x = refl
-is_some_by false x = refl
-
 pub unwrap_by : (test : Bool) (x d : ℕ) → unwrap_or (cond test (Some x) None) d ≡ cond test x d
 unwrap_by true x d = refl
 unwrap_by false x d = refl

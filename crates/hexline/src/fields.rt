@@ -14,7 +14,8 @@ pub const COLON: u8 = b':';
 
 const CR: u8 = 13;
 
-// The types that are read: data, the end, the upper 16 address bits. (Numbers: `kind_in` answers any byte, and its contract stays.)
+// The types that are read: data, the end, the upper 16 address bits. (Numbers, since `kind_in` answers any byte, and its
+// contract stays.)
 pub const DATA: u8 = 0;
 
 pub const END: u8 = 1;
@@ -136,7 +137,7 @@ pub fn first_address(rest: &[u8], upper: u16) -> usize
     upper as usize * UPPER_STEP + address_in(rest) as usize
 }
 
-// Past the array there is nothing to store to. (An index: what a `get_mut` leaves, a proof knows by its length alone.)
+// Past the array there is nothing to store to. (An index: of what a `get_mut` leaves a proof knows the length alone.)
 fn put(byte: u8, at: usize, share: &mut [u8])
     ensures { share.new ≡ set share.old at byte }
 {

@@ -7,7 +7,6 @@ use borrow.Author.Tests.{eqb-true}
 use Rattle.parts.specs.Part.{geometry_of}
 use Rattle.parts.specs.Address.{answers, a16_of}
 use Rattle.control.specs.declared.Control.{Control}
-use Rattle.addressing.specs.declared.Call.{Call}
 use Rattle.addressing.specs.declared.Call.TheVariants.{ReadArray, WriteArray, ReadRegister, WriteRegister, Nobody}
 use Rattle.addressing.specs.Address.{call_by_form, is_named}
 use Rattle.trace.specs.Chips.{is_array_byte, is_register_byte, has_address}

@@ -29,7 +29,7 @@ use Rattle.chip.specs.declared.Chip.{Chip}
 use Rattle.chip.specs.Chip.{stop}
 use Rattle.chip.specs.Chip as chip
 use Rattle.chip.specs.declared.event.Event.TheVariants as event
-use Rattle.std.specs.Prelude.{Ok}
+use Rattle.std.specs.Prelude.{Some, Ok}
 use Rattle.refusal.specs.Checks.{first_of}
 use Rattle.decode.specs.Decode.{addressed_of}
 use Rattle.lineup.specs.Chips.{chip_at, control_at, places_of}
@@ -182,7 +182,7 @@ partner_free (SendsByte source) partner = refl
 
 -- a Stop is told of the host's partner, with the ending that it then has
 pub record Ended (bus : Bus) (array security : List ℕ) (i : ℕ) : Type 0 where
-  pub told : (named : ℕ) → role_of event.Stop named bus.count bus.chips ≡ role_as i (Stop (ending_of (chip_at bus.chips i)))
+  pub told : (named : ℕ) → role_of event.Stop named bus.count bus.chips ≡ role_as (Some i) (Stop (ending_of (chip_at bus.chips i)))
   pub done : let after = step bus array security 0x0200 in
       let places = places_of bus.chips in
       Told (ending_of (chip_at bus.chips i)) (control_at bus.chips i) (chip_at bus.chips i).span bus.values (array_share places i array) (security_share places i security)
@@ -194,7 +194,7 @@ unfolding role_of
 the_partner_ends_as_told bus array security typed passes i below partner =
     let none = none_holds (step_checks bus array security 0x0200) passes in
     let enters : Entered bus array security = entered bus array security (rw (none.0, none.1.0)) in
-    let is_named_lem : who Partner bus.count bus.chips ≡ i =
+    let is_named_lem : who Partner bus.count bus.chips ≡ Some i =
     the_partner_is_named bus.count bus.started bus.chips enters.formed i (omega (arith, enters.all_placed)) partner in
     record {
       told = λ named. rw is_named_lem;

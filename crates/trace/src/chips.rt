@@ -8,7 +8,7 @@ use control::Control;
 use control::phase::{Phase, is_awaiting, is_busy, is_sending, is_taking};
 use parts::address::answers;
 
-// What is asked of a chip.
+// What is asked of a chip. No closure: definitions and theorems name it (`who Partner`, in `the_partner_is_named`).
 #[derive(Clone, Copy, Debug, PartialEq, Eq)]
 pub enum Test {
     // It is the host's partner.
@@ -54,16 +54,18 @@ fn is_partner(phase: Phase) -> bool
     is_sending(phase) || (is_taking(phase) && !is_awaiting(phase))
 }
 
-fn holds(test: Test, c: Control) -> bool
-    ensures { result ≡ holds test c }
-{
-    match test {
-        Test::Partner => is_partner(c.phase),
-        Test::HasAddress(byte) => has_address(byte, c),
-        Test::Awaits => is_awaiting(c.phase),
-        Test::Takes => is_taking(c.phase),
-        Test::Busy => is_busy(c.phase),
-        Test::Chosen => c.chosen,
+impl Test {
+    fn holds(self, c: Control) -> bool
+        ensures { result ≡ holds self c }
+    {
+        match self {
+            Test::Partner => is_partner(c.phase),
+            Test::HasAddress(byte) => has_address(byte, c),
+            Test::Awaits => is_awaiting(c.phase),
+            Test::Takes => is_taking(c.phase),
+            Test::Busy => is_busy(c.phase),
+            Test::Chosen => c.chosen,
+        }
     }
 }
 
@@ -73,7 +75,7 @@ pub fn who(test: Test, count: usize, chips: [Chip; PLACES]) -> Option<usize>
 {
     let mut found = None;
     for (i, chip) in chips[..placed(count)].iter().enumerate() {
-        if holds(test, chip.control) {
+        if test.holds(chip.control) {
             found = Some(i);
         }
     }
@@ -86,7 +88,7 @@ pub fn which(test: Test, count: usize, chips: [Chip; PLACES]) -> [bool; PLACES]
 {
     let mut found = [false; PLACES];
     for (i, chip) in chips[..placed(count)].iter().enumerate() {
-        found[i] = holds(test, chip.control);
+        found[i] = test.holds(chip.control);
     }
     found
 }

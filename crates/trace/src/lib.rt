@@ -27,13 +27,13 @@ use std::fmt::Result;
 // Room for the longest words.
 pub const WORDS: usize = 160;
 
-fn say(w: &mut Words, before: Bus, after: Bus, event: u16, answer: u16) -> Result {
+fn say(w: &mut Words, before: &Bus, after: &Bus, event: u16, answer: u16) -> Result {
     let asked = event_of(addressed_of(before.started, event));
     let value = (event % BYTE) as u8;
     let status = (answer / BYTE) as u8;
     let reply = (answer % BYTE) as u8;
     let role = role_of(asked, value as usize, before.count, before.chips);
-    let scene = Scene::new(role, &before, &after, value, reply);
+    let scene = Scene::new(role, before, after, value, reply);
     if status == 0 {
         say_done(w, role.act, &scene)
     } else {
@@ -48,6 +48,6 @@ pub fn words(before: Bus, after: Bus, event: u16, answer: u16, out: &mut [u8]) -
 {
     let mut words = Words::new();
     // Words take no error: what is too long is cut.
-    let _ = say(&mut words, before, after, event, answer);
+    let _ = say(&mut words, &before, &after, event, answer);
     words.put_in(out)
 }

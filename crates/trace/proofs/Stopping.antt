@@ -87,8 +87,7 @@ module _ (c : Control) (span : Span) (values array security : List ℕ) where
   -- a Stop that stores to a share where a test holds, and else says why not
   by_array : (test : Bool) (stored : List ℕ) (reason : Reason) (kept : Stored) → stored_to kept c span values array security ≡ (stored, security)
       → Told (cond test (Stores kept) (StoresNothing reason)) c span values array security ((cond {A = Control × List ℕ} test (busy_now c, stored) (standby_now c, array)).0, (cond {A = Control × List ℕ} test (busy_now c, stored) (standby_now c, array)).1, security)
-  by_array true stored reason kept is = record { busy = refl; shares = sym is }
-  by_array false stored reason kept is = record { busy = refl; shares = refl }
+  by_array test stored reason kept is = grind arith
 
   by_security : (test : Bool) (stored : List ℕ) (reason : Reason) (kept : Stored) → stored_to kept c span values array security ≡ (array, stored)
       → Told (cond test (Stores kept) (StoresNothing reason)) c span values array security ((cond {A = Control × List ℕ} test (busy_now c, stored) (standby_now c, security)).0, array, (cond {A = Control × List ℕ} test (busy_now c, stored) (standby_now c, security)).1)
@@ -163,22 +162,10 @@ a_stop_of_the_bus_is_told bus array security typed passes i below free =
 
 -- of a chip that is not the host's partner nothing is said
 pub no_partner_ends : (phase : Phase) (c : Control) (span : Span) → is_partner phase ≡ false → ending_in phase c span ≡ Idle
-no_partner_ends Standby c span none = refl
-no_partner_ends Busy c span none = refl
-no_partner_ends AwaitsAddress c span none = refl
-no_partner_ends AwaitsChoice c span none = refl
-no_partner_ends (AwaitsWord word) c span none = absurd (false≢true (sym none))
-no_partner_ends (TakesData kind) c span none = absurd (false≢true (sym none))
-no_partner_ends (SendsByte source) c span none = absurd (false≢true (sym none))
+no_partner_ends phase c span none = grind arith
 
 partner_free : (phase : Phase) → is_partner phase ≡ true → is_busy phase ≡ false
-partner_free Standby partner = refl
-partner_free Busy partner = absurd (false≢true partner)
-partner_free AwaitsAddress partner = refl
-partner_free AwaitsChoice partner = refl
-partner_free (AwaitsWord word) partner = refl
-partner_free (TakesData kind) partner = refl
-partner_free (SendsByte source) partner = refl
+partner_free phase partner = grind arith
 
 -- a Stop is told of the host's partner, with the ending that it then has
 pub record Ended (bus : Bus) (array security : List ℕ) (i : ℕ) : Type 0 where

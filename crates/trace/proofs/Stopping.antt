@@ -91,25 +91,19 @@ module _ (c : Control) (span : Span) (values array security : List ℕ) where
 
   by_security : (test : Bool) (stored : List ℕ) (reason : Reason) (kept : Stored) → stored_to kept c span values array security ≡ (array, stored)
       → Told (cond test (Stores kept) (StoresNothing reason)) c span values array security ((cond {A = Control × List ℕ} test (busy_now c, stored) (standby_now c, security)).0, array, (cond {A = Control × List ℕ} test (busy_now c, stored) (standby_now c, security)).1)
-  by_security true stored reason kept is = record { busy = refl; shares = sym is }
-  by_security false stored reason kept is = record { busy = refl; shares = refl }
+  by_security test stored reason kept is = grind arith
 
   -- one that changes the chip alone
   by_chip : (test : Bool) (next : Control) (reason : Reason) (kept : Stored) → stored_to kept c span values array security ≡ (array, security)
       → Told (cond test (Stores kept) (StoresNothing reason)) c span values array security (cond test (busy_now next) (standby_now c), array, security)
-  by_chip true next reason kept is = record { busy = refl; shares = sym is }
-  by_chip false next reason kept is = record { busy = refl; shares = refl }
+  by_chip test next reason kept is = grind arith
 
   nothing : (ending : Ending) → stores ending ≡ false → shares_after ending c span values array security ≡ (array, security)
       → Told ending c span values array security (standby_now c, array, security)
   nothing ending none same = record { busy = sym none; shares = sym same }
 
   in_configuration : (came : Came) → Told (ending_in (TakesData (ToConfiguration came)) c span) c span values array security (cycle.stop_data (ToConfiguration came) c (load_of span values) array security)
-  in_configuration Zero = nothing _ refl refl
-  in_configuration (One first) = nothing _ refl refl
-  in_configuration (Two first second) = nothing _ refl refl
-  in_configuration (Three first second third) = by_chip (confirms first third && not (configlock c)) (configured (first % 4) second c) (cond (configlock c) ConfigurationLocked NotConfirmed) (Configuration (first % 4) second) refl
-  in_configuration More = nothing _ refl refl
+  in_configuration came = grind arith
 
   in_data : (kind : Data) → Told (ending_in (TakesData kind) c span) c span values array security (cycle.stop_data kind c (load_of span values) array security)
   in_data ToArray = by_array (writes_array c span) (store_page g c.arraycounter (load_of span values) array) (cond (is_empty span) NoData Protected) (InArray (run_of g c.arraycounter span)) refl

@@ -1,28 +1,17 @@
 -- What is said of a Stop is what it does. A chip that was not busy is busy afterwards exactly where something is said to be stored; its shares
 -- are then the page that the rules store, and else they are as they were.
-use Prim.Native.Nat.{ℕ, ◌%◌, ◌<◌}
+use Prim.Native.Nat.{ℕ, ◌<◌}
 use native.Mathlib.Omega.{arith}
-use mathlib.Core.Bool.{Bool, true, false, cond, not, ◌&&◌, false≢true}
+use mathlib.Core.Bool.{Bool, true, false}
 use mathlib.Core.List.{List}
-use mathlib.Core.Path.{◌≡◌, refl, sym, subst⁻¹}
+use mathlib.Core.Path.{◌≡◌, subst⁻¹}
 use Rattle.parts.specs.declared.part.Geometry.{Geometry}
 use Rattle.parts.specs.Part.{geometry_of}
-use Rattle.regions.specs.Page.{in_id_page}
 use Rattle.load.specs.declared.Span.{Span}
-use Rattle.load.specs.Span.{is_empty}
 use Rattle.load.specs.Load.{load_of, store_page}
 use Rattle.control.specs.declared.Control.{Control}
 use Rattle.control.specs.declared.phase.Phase.{Phase}
-use Rattle.control.specs.declared.phase.Phase.TheVariants.{Standby, Busy, AwaitsAddress, AwaitsChoice, AwaitsWord, TakesData, SendsByte}
-use Rattle.control.specs.declared.phase.Data.{Data}
-use Rattle.control.specs.declared.phase.Data.TheVariants.{ToArray, ToSecurity, ToConfiguration, ToLock, ToNowhere}
-use Rattle.control.specs.declared.phase.Came.{Came}
-use Rattle.control.specs.declared.phase.Came.TheVariants.{Zero, One, Two, Three, More}
 use Rattle.control.specs.Phase.{is_busy}
-use Rattle.control.specs.Control.{configured, idlocked_now}
-use Rattle.control.specs.Exchange.{standby_now, busy_now}
-use Rattle.control.specs.Bits.{configlock}
-use Rattle.configuration.specs.Configuration.{confirms}
 use Rattle.cycle.specs.Stop.{writes_array, writes_security}
 use Rattle.cycle.specs.Stop as cycle
 use Rattle.chip.specs.declared.Chip.{Chip}
@@ -44,12 +33,10 @@ use Rattle.trace.specs.declared.ending.Ending.{Ending}
 use Rattle.trace.specs.declared.ending.Ending.TheVariants.{Idle, ReadEnds, Stores, StoresNothing}
 use Rattle.trace.specs.declared.ending.Stored.{Stored}
 use Rattle.trace.specs.declared.ending.Stored.TheVariants.{InArray, InSecurity, Configuration, IdLock}
-use Rattle.trace.specs.declared.ending.Reason.{Reason}
-use Rattle.trace.specs.declared.ending.Reason.TheVariants.{NoData, Protected, ReadOnly, IdLocked, ConfigurationLocked, NotConfirmed}
 use Rattle.trace.specs.declared.role.Act.TheVariants.{Stop}
 use Rattle.trace.specs.declared.chips.Test.TheVariants.{Partner}
 use Rattle.trace.specs.Chips.{is_partner, who}
-use Rattle.trace.specs.Ending.{run_of, ending_in, ending_of}
+use Rattle.trace.specs.Ending.{ending_in, ending_of}
 use Rattle.trace.specs.Role.{role_as, role_of}
 use Rattle.trace.proofs.Partner.{the_partner_is_named}
 
@@ -84,42 +71,8 @@ module _ (c : Control) (span : Span) (values array security : List ℕ) where
   abbrev g : Geometry
   g = geometry_of c.part
 
-  -- a Stop that stores to a share where a test holds, and else says why not
-  by_array : (test : Bool) (stored : List ℕ) (reason : Reason) (kept : Stored) → stored_to kept c span values array security ≡ (stored, security)
-      → Told (cond test (Stores kept) (StoresNothing reason)) c span values array security ((cond {A = Control × List ℕ} test (busy_now c, stored) (standby_now c, array)).0, (cond {A = Control × List ℕ} test (busy_now c, stored) (standby_now c, array)).1, security)
-  by_array test stored reason kept is = grind arith
-
-  by_security : (test : Bool) (stored : List ℕ) (reason : Reason) (kept : Stored) → stored_to kept c span values array security ≡ (array, stored)
-      → Told (cond test (Stores kept) (StoresNothing reason)) c span values array security ((cond {A = Control × List ℕ} test (busy_now c, stored) (standby_now c, security)).0, array, (cond {A = Control × List ℕ} test (busy_now c, stored) (standby_now c, security)).1)
-  by_security test stored reason kept is = grind arith
-
-  -- one that changes the chip alone
-  by_chip : (test : Bool) (next : Control) (reason : Reason) (kept : Stored) → stored_to kept c span values array security ≡ (array, security)
-      → Told (cond test (Stores kept) (StoresNothing reason)) c span values array security (cond test (busy_now next) (standby_now c), array, security)
-  by_chip test next reason kept is = grind arith
-
-  nothing : (ending : Ending) → stores ending ≡ false → shares_after ending c span values array security ≡ (array, security)
-      → Told ending c span values array security (standby_now c, array, security)
-  nothing ending none same = record { busy = sym none; shares = sym same }
-
-  in_configuration : (came : Came) → Told (ending_in (TakesData (ToConfiguration came)) c span) c span values array security (cycle.stop_data (ToConfiguration came) c (load_of span values) array security)
-  in_configuration came = grind arith
-
-  in_data : (kind : Data) → Told (ending_in (TakesData kind) c span) c span values array security (cycle.stop_data kind c (load_of span values) array security)
-  in_data ToArray = by_array (writes_array c span) (store_page g c.arraycounter (load_of span values) array) (cond (is_empty span) NoData Protected) (InArray (run_of g c.arraycounter span)) refl
-  in_data ToSecurity = by_security (writes_security c span) (store_page g c.securitycounter (load_of span values) security) (cond (is_empty span) NoData (cond (in_id_page g c.securitycounter) IdLocked ReadOnly)) (InSecurity (run_of g c.securitycounter span)) refl
-  in_data (ToConfiguration came) = in_configuration came
-  in_data (ToLock some) = by_chip (some && not c.idlocked) (idlocked_now c) (cond some IdLocked NoData) IdLock refl
-  in_data ToNowhere = nothing _ refl refl
-
   in_phase_lem : (phase : Phase) → is_busy phase ≡ false → Told (ending_in phase c span) c span values array security (cycle.stop_in phase c (load_of span values) array security)
-  in_phase_lem Standby free = nothing _ refl refl
-  in_phase_lem Busy free = absurd (false≢true (sym free))
-  in_phase_lem AwaitsAddress free = nothing _ refl refl
-  in_phase_lem AwaitsChoice free = nothing _ refl refl
-  in_phase_lem (AwaitsWord word) free = nothing _ refl refl
-  in_phase_lem (TakesData kind) free = in_data kind
-  in_phase_lem (SendsByte source) free = nothing _ refl refl
+  in_phase_lem phase free = grind arith
 
 -- a Stop of one chip
 pub a_stop_is_told : (chip : Chip) (values array security : List ℕ) → is_busy chip.control.phase ≡ false

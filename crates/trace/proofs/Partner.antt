@@ -2,16 +2,16 @@
 use Prim.Native.Nat.{ℕ, zero, suc, ◌<◌}
 use native.Mathlib.Decide.{dec_lt}
 use native.Mathlib.Omega.{arith}
-use mathlib.Core.Bool.{Bool, true, false, cond, not, ◌&&◌, false≢true}
+use mathlib.Core.Bool.{Bool, true, false, cond, false≢true}
 use mathlib.Core.List.{List}
 use mathlib.Core.Path.{◌≡◌, ◌∙◌, refl, sym, ap, subst}
 use Rattle.std.specs.Prelude.{Option, Some, None}
 use Rattle.base.specs.Fold.{up_to}
 use Rattle.base.proofs.Fold.{all_pairs_at}
-use Rattle.base.proofs.logic.Laws.{and_left, and_right, and_both, or_right}
+use Rattle.base.proofs.logic.Laws.{and_left, and_right}
 use Rattle.control.specs.declared.Control.{Control}
 use Rattle.chip.specs.declared.Chip.{Chip}
-use Rattle.wellformed.specs.Beside.{is_active, not_both_active, side_by_side}
+use Rattle.wellformed.specs.Beside.{side_by_side}
 use Rattle.board.specs.Place.{placed}
 use Rattle.lineup.specs.Chips.{control_at}
 use Rattle.lineup.specs.Wellformed.{set_up_passes, chips_fit, chips_apart, well_formed}
@@ -26,7 +26,7 @@ module _ (test : Test) (chips : List Chip) where
   none_found : (n : ℕ) → ((i : ℕ) → i < n → holds_at test chips i ≡ false) → found n ≡ None
   unfolding up_to
   none_found zero none = refl
-  none_found (suc n) none = rw (none n (omega arith)) (none_found n (λ i below. none i (omega arith)))
+  none_found (suc n) none = grind (arith, none n, none_found n (λ i below. none i (omega arith)))
 
   -- the only one of which the test holds is found
   one_found : (n i : ℕ) → i < n → holds_at test chips i ≡ true → ((j : ℕ) → j < n → holds_at test chips j ≡ true → j ≡ i) → found n ≡ Some i
@@ -44,9 +44,7 @@ module _ (test : Test) (chips : List Chip) where
 
 -- two chips side by side are not both the host's partner
 not_both : (c d : Control) → side_by_side c d ≡ true → is_partner c.phase ≡ true → is_partner d.phase ≡ true → ⊥
-not_both c d beside one other =
-    let active : (is_active c && is_active d) ≡ true = and_both (is_active c) (is_active d) (or_right c.chosen _ one) (or_right d.chosen _ other) in
-    false≢true (sym (ap not active) ∙ and_left (not_both_active c d) _ beside)
+not_both c d beside one other = grind arith
 
 module _ (count : ℕ) (started : Bool) (chips : List Chip) (formed : well_formed count started chips ≡ true) where
   apart : (i j : ℕ) → i < placed count → j < i → side_by_side (control_at chips i) (control_at chips j) ≡ true

@@ -5,7 +5,6 @@ use native.Mathlib.Omega.{arith}
 use mathlib.Core.Bool.{Bool, true, false}
 use mathlib.Core.List.{List}
 use mathlib.Core.Path.{◌≡◌, subst⁻¹}
-use Rattle.parts.specs.declared.part.Geometry.{Geometry}
 use Rattle.parts.specs.Part.{geometry_of}
 use Rattle.load.specs.declared.Span.{Span}
 use Rattle.load.specs.Load.{load_of, store_page}
@@ -67,12 +66,9 @@ pub record Told (ending : Ending) (c : Control) (span : Span) (values array secu
   pub busy : is_busy left.0.phase ≡ stores ending
   pub shares : (left.1, left.2) ≡ shares_after ending c span values array security
 
-module _ (c : Control) (span : Span) (values array security : List ℕ) where
-  abbrev g : Geometry
-  g = geometry_of c.part
-
-  in_phase_lem : (phase : Phase) → is_busy phase ≡ false → Told (ending_in phase c span) c span values array security (cycle.stop_in phase c (load_of span values) array security)
-  in_phase_lem phase free = grind arith
+in_phase_lem : (phase : Phase) (c : Control) (span : Span) (values array security : List ℕ) → is_busy phase ≡ false
+    → Told (ending_in phase c span) c span values array security (cycle.stop_in phase c (load_of span values) array security)
+in_phase_lem phase c span values array security free = grind arith
 
 -- a Stop of one chip
 pub a_stop_is_told : (chip : Chip) (values array security : List ℕ) → is_busy chip.control.phase ≡ false
@@ -80,7 +76,7 @@ pub a_stop_is_told : (chip : Chip) (values array security : List ℕ) → is_bus
     Told (ending_of chip) chip.control chip.span values array security (after.0.control, after.1, after.2)
 unfolding ending_of cycle.stop
 a_stop_is_told chip values array security free =
-    rw free (in_phase_lem chip.control chip.span values array security chip.control.phase free)
+    rw free (in_phase_lem chip.control.phase chip.control chip.span values array security free)
 
 carried : (P : Chip → List ℕ → List ℕ → Type 0) {c next : Chip} {a kept s held : List ℕ} → c ≡ next → a ≡ kept → s ≡ held → P next kept held → P c a s
 carried P {next = next} {a = a} {kept = kept} {s = s} chips arrays securities holds =

@@ -30,8 +30,8 @@ use Rattle.conversation.proofs.pending.pending_at.Kinds as pending_at_kinds
 use Rattle.conversation.proofs.pending.pending_at.Reads as pending_at_reads
 use Rattle.conversation.proofs.pending.next_pending.Kinds as next_pending_kinds
 use Rattle.conversation.proofs.pending.next_pending.Reads as next_pending_reads
-use Rattle.conversation.proofs.pending.heard_of.Kinds as heard_of_kinds
-use Rattle.conversation.proofs.pending.heard_of.Reads as heard_of_reads
+use Rattle.conversation.proofs.pending.HeardFromPending.from.Kinds as heard_of_kinds
+use Rattle.conversation.proofs.pending.HeardFromPending.from.Reads as heard_of_reads
 use Rattle.conversation.proofs.pending.finish.Kinds as finish_kinds
 use Rattle.conversation.proofs.pending.finish.Reads as finish_reads
 use Rattle.conversation.specs.contracts.converse as talk
@@ -51,7 +51,7 @@ keep_rest_unique κs args x y at_x at_y = same
 pub pending_at_unique : UniqueOutcome pending_at_kinds.ps pending_at_kinds.r (Pending × List ℕ) (λ κs result at. (result, at.1.1.1.0.now)) pending_at_reads.Post
 pending_at_unique κs args x y at_x at_y = same
 
-pub next_pending_unique : UniqueOutcome next_pending_kinds.ps next_pending_kinds.r (Pending × List ℕ) (λ κs result at. (result, at.1.1.1.1.0.now)) next_pending_reads.Post
+pub next_pending_unique : UniqueOutcome next_pending_kinds.ps next_pending_kinds.r (Pending × List ℕ) (λ κs result at. (result, at.1.1.1.1.1.0.now)) next_pending_reads.Post
 next_pending_unique κs args x y at_x at_y = same
 
 pub heard_of_unique : Unique heard_of_kinds.ps heard_of_kinds.r heard_of_reads.Post

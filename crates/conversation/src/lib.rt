@@ -9,21 +9,21 @@ ghost use Rattle.conversation.specs.Talk.{converse};
 ghost use Rattle.conversation.specs.Tape.{text_on};
 ghost use Rattle.conversation.specs.Whole.{answer_all};
 
-use crate::pending::{finish, heard_of, next_pending, pending_at};
+use crate::pending::{finish, next_pending, pending_at};
 use crate::tape::text_on;
 use bus::Bus;
 use inplace::step_in_place;
 use reader::Reader;
 
 // How much of a text was used, how much was said, and whether a malformed line has ended the run.
-#[derive(Clone, Copy)]
+#[derive(Clone, Copy, Debug, Default, PartialEq, Eq)]
 pub struct Heard {
     pub used: usize,
     pub written: usize,
     pub over: bool,
 }
 
-// The bus that is lent, as it stands.
+// The bus that is lent, as it stands. A function, since a call's result is known to be a value of its type, and `*bus` is not.
 fn as_lent(bus: &Bus) -> Bus
     ensures { result ≡ bus.now }
 {
@@ -47,17 +47,16 @@ pub fn converse(
     let text = text_on(tape, filled);
     let mut reader = Reader::new(text);
     let mut pending = pending_at(reader.next(), text, 0, said, 0);
-    while pending.more {
-        let answer = step_in_place(bus, entry, array, security, pending.event);
-        let frame = reader.next();
-        pending = next_pending(pending, answer, frame, text, said);
+    while let Some(event) = pending.event {
+        let answer = step_in_place(bus, entry, array, security, event);
+        pending = next_pending(pending, event, answer, reader.next(), text, said);
     }
-    heard_of(pending)
+    Heard::from(pending)
 }
 
 // A whole transcript, on a bus that serves for nothing else.
 pub fn answer_all(
-    bus: Bus,
+    mut bus: Bus,
     array: &mut [u8],
     security: &mut [u8],
     tape: &[u8],
@@ -66,7 +65,6 @@ pub fn answer_all(
 ) -> Heard
     ensures { (result, array.new, security.new, said.new) ≡ answer_all (text_on tape.now filled) bus array.old security.old said.old }
 {
-    let mut held = bus;
-    let heard = converse(&mut held, array, security, tape, filled, said);
+    let heard = converse(&mut bus, array, security, tape, filled, said);
     finish(heard, tape, filled, said)
 }

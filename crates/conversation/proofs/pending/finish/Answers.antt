@@ -7,6 +7,7 @@ use borrow.Author.Tests.{le-leb, lt-leb}
 use Rattle.base.specs.Store.{patched}
 use Rattle.conversation.specs.declared.Heard.{Heard}
 use Rattle.conversation.specs.Pending.{finished}
+use Rattle.conversation.proofs.pending.finish.Goals.{then-end-heard-via-then-end-heard, then-end-heard-via-else-end-heard+then-not-has_room}
 use Rattle.conversation.proofs.pending.finish.Goals as goal
 
 -- what is told at the end, beside the buffer
@@ -15,12 +16,11 @@ closed used written said = (record { used = used; written = written; over = true
 
 pub returns-then-end-heard : goal.returns-then-end-heard
 unfolding finished
-returns-then-end-heard c = rw (← c.text_end-end.ensures, le-leb _ _ c.if-end-heard.true) refl
-
-pub returns-then-not-has_room : goal.returns-then-not-has_room
-unfolding finished
-returns-then-not-has_room c =
-    rw (← c.text_end-end.ensures, lt-leb _ _ c.if-end-heard.false, ← c.has_room.ensures, c.if-not-has_room.true) refl
+returns-then-end-heard c = elim c.then-end-heard.branch [
+  | then-end-heard-via-then-end-heard w ↦ rw (← c.text_end-end.ensures, le-leb _ _ w.if-end-heard.true) refl
+  | then-end-heard-via-else-end-heard+then-not-has_room w ↦
+      rw (← c.text_end-end.ensures, lt-leb _ _ w.if-end-heard.false, ← w.has_room.ensures, w.if-not-has_room.true) refl
+]
 
 pub returns : goal.returns
 unfolding finished

@@ -19,4 +19,4 @@ returns c =
     (c.pending_at.ensures
     ∙ ap (λ (said : List ℕ). pending_at a.text.now a.pending.at said (a.pending.written + 9))
     (c.put.ensures
-    ∙ ap (λ (line : List ℕ). patched a.pending.written line a.said.now) (c.printed.ensures ∙ ap (printed a.pending.event) c.answer_word.ensures)))
+    ∙ ap (λ (line : List ℕ). patched a.pending.written line a.said.now) (c.printed.ensures ∙ ap (printed a.event) c.answer_word.ensures)))

@@ -6,11 +6,9 @@ ghost use Rattle.transcript.specs.Digit.{is_digit};
 ghost use Rattle.transcript.specs.Frame.{frame_at};
 ghost use Rattle.print.specs.Print.{printed_bytes};
 ghost use Rattle.conversation.specs.Talk.{unfinished};
-ghost use Rattle.conversation.specs.Tape.{text_on};
 ghost use Rattle.conversation.specs.Pending.{has_room, paused, pending_by, pending_at, next_pending, heard_of, finished};
 
 use crate::Heard;
-use crate::tape::text_end;
 use print::{PRINTED_BYTES, closing, printed};
 use refusal::{Refusal, answer_word};
 use transcript::digit::digit_value;
@@ -143,16 +141,15 @@ pub fn next_pending(
 }
 
 // The text has ended: a line that is left of it is malformed.
-pub fn finish(heard: Heard, tape: &[u8], filled: usize, said: &mut [u8]) -> Heard
-    ensures { (result, said.new) ≡ finished (text_on tape.now filled) heard said.old }
+pub fn finish(heard: Heard, text: &[u8], said: &mut [u8]) -> Heard
+    ensures { (result, said.new) ≡ finished text.now heard said.old }
 {
-    let end = text_end(tape, filled);
-    if end <= heard.used || !has_room(said, heard.written) {
+    if text.len() <= heard.used || !has_room(said, heard.written) {
         return heard;
     }
     put(closing(MALFORMED), said, heard.written);
     Heard {
-        used: end,
+        used: text.len(),
         written: heard.written + PRINTED_BYTES,
         over: true,
     }

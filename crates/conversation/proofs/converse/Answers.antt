@@ -1,10 +1,7 @@
 -- `begins` at the first frame, `goes` from one to the next, `ends` at the last (`Standing.antt`). The reader's text stays the text on the tape.
 use mathlib.Core.Path.{◌∙◌, ap}
-use mathlib.Core.List.{List}
-use Prim.Native.Nat.{ℕ}
 use Rattle.bus.proofs.Typed.{OfItsType}
 use Rattle.reader.specs.declared.Reader.{Reader}
-use Rattle.conversation.specs.Talk as talk
 use Rattle.conversation.proofs.Standing.{begins, goes, ends}
 use Rattle.conversation.proofs.converse.Goals as goal
 
@@ -34,4 +31,3 @@ pub returns : goal.returns
 returns c =
     let a = c.args in
     ends _ _ _ _ _ c.loop-pending.invariant.0 c.in_default.is c.from.ensures
-    ∙ ap (λ (text : List ℕ). talk.converse text a.bus.now a.array.now a.security.now a.said.now) c.text_on-text.ensures.shows

@@ -51,6 +51,7 @@ pub fn converse(
 }
 
 // A whole transcript, on a bus that serves for nothing else.
+#[tactic(auto, unfolding(crate::specs::Whole::answer_all))]
 pub fn answer_all(
     mut bus: Bus,
     array: &mut [u8],

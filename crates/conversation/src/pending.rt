@@ -101,6 +101,7 @@ fn pending_without_frame(text: &[u8], at: usize, said: &mut [u8], written: usize
 }
 
 // What is pending at a place of the text, where the reader found a frame.
+#[tactic(auto, unfolding(crate::specs::Pending::pending_at))]
 pub fn pending_at(frame: Frame, text: &[u8], at: usize, said: &mut [u8], written: usize) -> Pending
     requires { frame ≡ frame_at text.now at }
     ensures { (result, said.new) ≡ pending_at text.now at said.old written }
@@ -121,6 +122,7 @@ pub fn pending_at(frame: Frame, text: &[u8], at: usize, said: &mut [u8], written
 }
 
 // The answer to the event is noted, and what stands at the place after it is pending: the reader's next frame.
+#[tactic(auto, unfolding(crate::specs::Pending::next_pending))]
 pub fn next_pending(
     pending: Pending,
     event: u16,
@@ -141,6 +143,7 @@ pub fn next_pending(
 }
 
 // The text has ended: a line that is left of it is malformed.
+#[tactic(auto, unfolding(crate::specs::Pending::finished))]
 pub fn finish(heard: Heard, text: &[u8], said: &mut [u8]) -> Heard
     ensures { (result, said.new) ≡ finished text.now heard said.old }
 {

@@ -17,6 +17,7 @@ pub fn text_on(tape: &[u8], filled: usize) -> &[u8]
 }
 
 // Moves what is left of the text to the tape's start, so that the next block is read behind it, and answers how much that is.
+#[tactic(auto, using(crate::proofs::Laws::moved))]
 pub fn keep_rest(tape: &mut [u8], filled: usize, used: usize) -> usize
     ensures { (result, tape.new) ≡ keep_rest tape.old filled used }
 {

@@ -12,6 +12,7 @@ use arguments::{Words, read_arguments, tell_status, tell_words};
 use block::{Block, close, next_block, read_block};
 use bus::Bus;
 use conversation::converse;
+use conversation::tape::text_on;
 use errands::telling::{tell_failure, tell_refusal};
 use errands::{Ending, blank_text};
 use factory::{erased_arrays, erased_registers, mark_serials};
@@ -39,7 +40,7 @@ fn answer_input(
     let mut block = read_block(rt, tape, 0, u64::MAX, 0);
     while block.more {
         let before = held;
-        let heard = converse(&mut held, array, security, tape, block.filled, said);
+        let heard = converse(&mut held, array, security, text_on(tape, block.filled), said);
         block = next_block(rt, block, heard, before, held, tape, said);
     }
     block

@@ -4,6 +4,7 @@ ghost use Rattle.std.specs.Prelude.{◌+◌, ◌≤◌, ◌≡◌, length};
 use base::number::least;
 use bus::Bus;
 use conversation::answer_all;
+use conversation::tape::text_on;
 use factory::{erased_arrays, erased_registers, mark_serials};
 use files::read_whole;
 use placing::layout::Board;
@@ -91,7 +92,7 @@ fn answers_on(
             }
             PRINTED_BYTES
         }
-        Ok(()) => answer_all(bus, array, security, tape, filled, said).written,
+        Ok(()) => answer_all(bus, array, security, text_on(tape, filled), said).written,
     }
 }
 

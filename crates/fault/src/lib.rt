@@ -2,8 +2,10 @@
 // first mistakes, and FFFF0900 names none of them.
 #![tactic(auto)]
 
-ghost use Rattle.std.specs.Prelude.{◌≡◌, Some};
-ghost use Rattle.fault.specs.Fault.{is_lower_case, is_blank, digits_in, fault_among, fault_after, fault_of};
+ghost use Rattle.std.specs.Prelude.{◌≡◌, length, take, take_while};
+ghost use Rattle.std.specs.Option.{is_some};
+ghost use Rattle.transcript.specs.Digit.{digit_value};
+ghost use Rattle.fault.specs.Fault.{is_lower_case, is_blank, digits_in, fault_among, fault_after, fault_behind, fault_of};
 
 use transcript::digit::digit_value;
 use transcript::frame::LF;
@@ -42,7 +44,7 @@ fn is_blank(byte: u8) -> bool
 
 // How many digits the line begins with, at most four.
 fn digits_in(line: &[u8]) -> usize
-    ensures { result ≡ digits_in 4 line.now }
+    ensures { result ≡ length (take_while (λ b. is_some (digit_value b)) (take 4 line.now)) }
 {
     line.iter()
         .take(LINE_DIGITS)
@@ -52,7 +54,7 @@ fn digits_in(line: &[u8]) -> usize
 
 // A byte that is no digit, where there should be one.
 fn fault_among(digits: usize, byte: u8) -> Fault
-    ensures { Some result ≡ fault_among digits byte }
+    ensures { result ≡ fault_among digits byte }
 {
     match byte {
         LF if digits == 0 => Fault::EmptyLine,
@@ -75,16 +77,22 @@ fn fault_after(byte: u8) -> Option<Fault>
     }
 }
 
+// By the number of digits before the first byte that is none.
+fn fault_behind(digits: usize, line: &[u8]) -> Option<Fault>
+    ensures { result ≡ fault_behind digits line.now }
+{
+    if line.len() <= digits {
+        Some(Fault::Unended)
+    } else if digits < LINE_DIGITS {
+        Some(fault_among(digits, line[digits]))
+    } else {
+        fault_after(line[digits])
+    }
+}
+
 // Of the line at the start of a text: none where it is four digits and LF. The first byte that is wrong decides.
 pub fn fault_of(line: &[u8]) -> Option<Fault>
     ensures { result ≡ fault_of line.now }
 {
-    let n = digits_in(line);
-    if line.len() <= n {
-        Some(Fault::Unended)
-    } else if n < LINE_DIGITS {
-        Some(fault_among(n, line[n]))
-    } else {
-        fault_after(line[n])
-    }
+    fault_behind(digits_in(line), line)
 }

@@ -76,7 +76,7 @@ pub fn write_on<W: Write>(clock: &impl Clock, to: &mut W, text: &[u8]) -> io::Re
     ensures part { AppendsFront (W.contents to.old) (W.contents to.new) text.now }
 {
     let mut done: usize = 0;
-    for _ in 0..u64::MAX {
+    'tries: for _ in 0..u64::MAX {
         if text.len() <= done {
             return Ok(());
         }

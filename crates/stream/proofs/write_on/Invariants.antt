@@ -3,8 +3,8 @@ use Rattle.std.proofs.Common.{length, take, ◌≤◌}
 use Rattle.std.specs.Io.KnownBytes.{Appends}
 use Rattle.stream.proofs.write_on.Given as goal
 
-abbrev pub invariant-loop : goal.invariant-loop
-invariant-loop g l = record {
+abbrev pub invariant-tries : goal.invariant-tries
+invariant-tries g l = record {
   fits : l.done ≤ length l.text;
   taken : Appends (g.W.Write.contents l.initial.to) (g.W.Write.contents l.to) (take l.done l.text);
 }

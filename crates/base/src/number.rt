@@ -6,5 +6,5 @@ ghost use Rattle.base.specs.Least.{least};
 pub fn least(a: usize, b: usize) -> usize
     ensures { result ≡ least a b }
 {
-    if a <= b { a } else { b }
+    a.min(b)
 }

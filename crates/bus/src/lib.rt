@@ -30,12 +30,6 @@ pub struct Bus {
 }
 
 #[derive(Clone, Copy)]
-pub struct SetUp {
-    pub bus: Bus,
-    pub verdict: Result<(), Refusal>,
-}
-
-#[derive(Clone, Copy)]
 pub struct Stepped {
     pub bus: Bus,
     pub answer: Result<u8, Refusal>,
@@ -61,25 +55,22 @@ impl Bus {
     }
 
     // Checks 1 to 5 in that order over all chips; writes to neither store. Places past the count are ignored.
-    pub fn set_up(count: usize, places: [Place; PLACES], array: &[u8], security: &[u8]) -> SetUp
+    #[tactic(auto, unfolding(crate::specs::Setup::set_up))]
+    pub fn set_up(
+        count: usize,
+        places: [Place; PLACES],
+        array: &[u8],
+        security: &[u8],
+    ) -> Result<Bus, Refusal>
         ensures { result ≡ set_up count places array.now security.now }
     {
-        let verdict = set_up_verdict(count, places, array, security);
-        match verdict {
-            Err(refusal) => SetUp {
-                bus: Bus::empty(),
-                verdict: Err(refusal),
-            },
-            Ok(()) => SetUp {
-                bus: Bus {
-                    count,
-                    chips: fresh_chips(count, places),
-                    values: [0; PAGE_MOST],
-                    started: false,
-                },
-                verdict: Ok(()),
-            },
-        }
+        set_up_verdict(count, places, array, security)?;
+        Ok(Bus {
+            count,
+            chips: fresh_chips(count, places),
+            values: [0; PAGE_MOST],
+            started: false,
+        })
     }
 
     pub fn well_formed(self) -> bool
@@ -107,17 +98,11 @@ impl Bus {
     pub fn chip_verdict(self, array: &[u8], security: &[u8], chip: usize) -> Result<(), Refusal>
         ensures { result ≡ first_of (chip_checks self array.now security.now chip) }
     {
-        let verdict = self.entry_verdict(array, security);
-        match verdict {
-            Err(refusal) => Err(refusal),
-            Ok(()) => {
-                if self.count <= chip {
-                    Err(Refusal::WrongValue)
-                } else {
-                    Ok(())
-                }
-            }
+        self.entry_verdict(array, security)?;
+        if self.count <= chip {
+            return Err(Refusal::WrongValue);
         }
+        Ok(())
     }
 
     // One event. What is refused changes nothing.
@@ -195,20 +180,20 @@ impl Bus {
     }
 }
 
-fn set_up_verdict(count: usize, places: [Place; PLACES], array: &[u8], security: &[u8]) -> Result<(), Refusal>
+#[tactic(auto, unfolding(board::specs::Board::board_verdict))]
+fn set_up_verdict(
+    count: usize,
+    places: [Place; PLACES],
+    array: &[u8],
+    security: &[u8],
+) -> Result<(), Refusal>
     ensures { result ≡ first_of (set_up_checks count places array.now security.now) }
 {
-    let verdict = board_verdict(count, places);
-    match verdict {
-        Err(refusal) => Err(refusal),
-        Ok(()) => {
-            if wrong_length(count, places, array.len(), security.len()) {
-                Err(Refusal::WrongLength)
-            } else {
-                Ok(())
-            }
-        }
+    board_verdict(count, places)?;
+    if wrong_length(count, places, array.len(), security.len()) {
+        return Err(Refusal::WrongLength);
     }
+    Ok(())
 }
 
 // A fresh chip at each place that the count fills.
@@ -227,14 +212,16 @@ fn fresh_chips(count: usize, places: [Place; PLACES]) -> [Chip; PLACES]
 }
 
 // Checks 6, 7, 12 and 8.
-fn event_verdict(count: usize, started: bool, chips: [Chip; PLACES], word: u16) -> Result<(), Refusal>
+fn event_verdict(
+    count: usize,
+    started: bool,
+    chips: [Chip; PLACES],
+    word: u16,
+) -> Result<(), Refusal>
     ensures { result ≡ first_of (event_checks (bus_with count started chips []) word) }
 {
-    let verdict = decode_verdict(count, word);
-    match verdict {
-        Err(refusal) => Err(refusal),
-        Ok(()) => line_verdict(addressed_of(started, word), count, chips),
-    }
+    decode_verdict(count, word)?;
+    line_verdict(addressed_of(started, word), count, chips)
 }
 
 // Whether a Start is remembered after an event that is done.

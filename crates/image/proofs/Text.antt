@@ -3,7 +3,7 @@
 use Prim.Native.Nat.{ℕ, zero, suc, ◌+◌, ◌≤◌, ◌<◌}
 use native.Mathlib.Decide.{dec_le}
 use native.Mathlib.Omega.{arith}
-use mathlib.Core.Bool.{Bool, true, false, cond, not, ◌&&◌, false≢true, true≢false}
+use mathlib.Core.Bool.{Bool, true, false, cond, ◌&&◌, false≢true, true≢false}
 use mathlib.Core.List.{List}
 use mathlib.Core.Logic.{◌↔◌}
 use mathlib.Core.Path.{◌≡◌, ◌∙◌, refl, sym, ap}
@@ -24,9 +24,9 @@ use Rattle.hexline.specs.Fields.{data_kind, end_kind, count_in, kind_in, line_si
 use Rattle.hexline.specs.Checks.{record_checks}
 use Rattle.hexline.proofs.fields.Laws.{put_data_named, put_data_unnamed}
 use Rattle.image.specs.declared.loading.Reading.{Reading}
-use Rattle.image.specs.Reading.{reads_on, rest_at, stopped, read_by, verdict_at, next_reading, read_on, reading_after, scanned, verdict_by, text_verdict}
+use Rattle.image.specs.Reading.{is_open, has_ended, said_by, reads_on, rest_at, past, stopped, read_by, verdict_at, next_reading, read_on, reading_after, scanned, verdict_by, text_verdict}
 use Rattle.image.specs.Storing.{Storing, is_stored, next_storing, store_on, storing_after, stored, names, stores_at, byte_for}
-use Rattle.image.proofs.loading.Laws.{reads_inside, after_sane, lines_read, scanned_is, reads_alike, storing_length}
+use Rattle.image.proofs.loading.Laws.{open_by, passes_by, reads_inside, after_sane, lines_read, scanned_is, reads_alike, storing_length}
 
 -- the checks of the record that is to be read
 abbrev pub checks_at : ℕ → List ℕ → Reading → Checks
@@ -38,7 +38,7 @@ NoneRefused size text = (i : ℕ) → reads_on text (reading_after size text i) 
 
 -- the end record came, and nothing stands behind it
 abbrev pub Complete : ℕ → List ℕ → Type 0
-Complete size text = ((scanned size text).ended ≡ true) × ((scanned size text).at ≡ length text)
+Complete size text = (has_ended (scanned size text).progress ≡ true) × ((scanned size text).at ≡ length text)
 
 -- a verdict with a number other than 0 is that refusal
 refused_by : (verdict : Verdict) (n : ℕ) → 0 < n → status_of verdict ≡ n → (refusal : Refusal) × (verdict ≡ Err refusal) × (number_of refusal ≡ n)
@@ -46,7 +46,7 @@ refused_by (Ok tt) n some is = absurd (omega (arith, is))
 refused_by (Err refusal) n some is = (refusal, refl, is)
 
 abbrev verdict_of_lem : Reading → Verdict
-verdict_of_lem reading = reading.verdict
+verdict_of_lem reading = said_by reading.progress
 
 module _ (size : ℕ) (text : List ℕ) where
   abbrev at : ℕ → Reading
@@ -73,8 +73,8 @@ module _ (size : ℕ) (text : List ℕ) where
       to true on (Ok tt) said next = (
         on,
         (passed_exactly_when (checks_at size text (at i))).0 (ap status_of said),
-        eqb-false _ _ (not-true _ (and_left (not (eqb (kind_in (rest_at text (at i))) end_kind)) _ next)),
-        ltb-true _ _ (and_right (not (eqb (kind_in (rest_at text (at i))) end_kind)) _ next),
+        eqb-false _ _ (not-true _ (sym (open_by (eqb (kind_in (rest_at text (at i))) end_kind)) ∙ and_left (is_open (past (rest_at text (at i)) (at i)).progress) _ next)),
+        ltb-true _ _ (and_right (is_open (past (rest_at text (at i)) (at i)).progress) _ next),
       )
       to true on (Err refusal) said next = absurd (false≢true next)
       to false off verdict said next = absurd (false≢true (sym off ∙ next))
@@ -92,17 +92,18 @@ module _ (size : ℕ) (text : List ℕ) where
       refused_by (verdict_at size text reading) n some ((given_exactly_when (checks_at size text reading) refl n some).1 given)
 
   -- a reading that was refused was refused at some record
-  refused_at_lem : (n : ℕ) (refusal : Refusal) → (at n).verdict ≡ Err refusal
+  refused_at_lem : (n : ℕ) (refusal : Refusal) → said_by (at n).progress ≡ Err refusal
       → (i : ℕ) × (reads_on text (at i) ≡ true) × (verdict_at size text (at i) ≡ Err refusal)
   unfolding up_to read_on next_reading
   refused_at_lem zero refusal is = absurd (true≢false (ap is_ok is))
   refused_at_lem (suc n) refusal is = go (reads_on text (at n)) refl (verdict_at size text (at n)) refl is (refused_at_lem n refusal)
     where
       go : (on : Bool) → reads_on text (at n) ≡ on → (verdict : Verdict) → verdict_at size text (at n) ≡ verdict
-          → (cond on (read_by verdict (rest_at text (at n)) (at n)) (at n)).verdict ≡ Err refusal
-          → ((at n).verdict ≡ Err refusal → (i : ℕ) × (reads_on text (at i) ≡ true) × (verdict_at size text (at i) ≡ Err refusal))
+          → said_by (cond on (read_by verdict (rest_at text (at n)) (at n)) (at n)).progress ≡ Err refusal
+          → (said_by (at n).progress ≡ Err refusal → (i : ℕ) × (reads_on text (at i) ≡ true) × (verdict_at size text (at i) ≡ Err refusal))
           → (i : ℕ) × (reads_on text (at i) ≡ true) × (verdict_at size text (at i) ≡ Err refusal)
-      go true on (Ok tt) said now earlier = absurd (true≢false (ap is_ok now))
+      go true on (Ok tt) said now earlier =
+          absurd (true≢false (ap is_ok (sym (passes_by (eqb (kind_in (rest_at text (at n))) end_kind)) ∙ now)))
       go true on (Err other) said now earlier = (n, on, said ∙ now)
       go false off verdict said now earlier = earlier now
 
@@ -115,17 +116,17 @@ module _ (size : ℕ) (text : List ℕ) where
       sym (scanned_is size text (suc i) (rw next)) ∙ next
 
   -- the records that are read pass exactly where reading did
-  passed_none : (scanned size text).verdict ≡ Ok tt → NoneRefused size text
+  passed_none : said_by (scanned size text).progress ≡ Ok tt → NoneRefused size text
   passed_none passes i on = go (verdict_at size text (at i)) refl
     where
       go : (verdict : Verdict) → verdict_at size text (at i) ≡ verdict → NoneHolds (checks_at size text (at i))
       go (Ok tt) said = (passed_exactly_when (checks_at size text (at i))).0 (ap status_of said)
       go (Err refusal) said = absurd (true≢false (ap is_ok (sym passes ∙ ap verdict_of_lem (refused_ends i refusal on said))))
 
-  none_passed : NoneRefused size text → (scanned size text).verdict ≡ Ok tt
-  none_passed none = go (scanned size text).verdict refl
+  none_passed : NoneRefused size text → said_by (scanned size text).progress ≡ Ok tt
+  none_passed none = go (said_by (scanned size text).progress) refl
     where
-      go : (verdict : Verdict) → (scanned size text).verdict ≡ verdict → verdict ≡ Ok tt
+      go : (verdict : Verdict) → said_by (scanned size text).progress ≡ verdict → verdict ≡ Ok tt
       go (Ok tt) said = refl
       go (Err refusal) said =
           let (i, on, refused) = refused_at_lem (length text) refusal said in
@@ -134,13 +135,13 @@ module _ (size : ℕ) (text : List ℕ) where
 
   -- the test of the end
   abbrev ends : Bool
-  ends = (scanned size text).ended && eqb (scanned size text).at (length text)
+  ends = has_ended (scanned size text).progress && eqb (scanned size text).at (length text)
 
   ends_complete : ends ≡ true → Complete size text
-  ends_complete is = (and_left (scanned size text).ended _ is, eqb-true _ _ (and_right (scanned size text).ended _ is))
+  ends_complete is = (and_left (has_ended (scanned size text).progress) _ is, eqb-true _ _ (and_right (has_ended (scanned size text).progress) _ is))
 
   complete_ends : Complete size text → ends ≡ true
-  complete_ends (ended, all) = and_both (scanned size text).ended _ ended (eq-eqb _ _ all)
+  complete_ends (ended, all) = and_both (has_ended (scanned size text).progress) _ ended (eq-eqb _ _ all)
 
   abbrev said_by_lem : Verdict → ℕ
   said_by_lem verdict = status_of (verdict_by verdict text (scanned size text))
@@ -148,13 +149,13 @@ module _ (size : ℕ) (text : List ℕ) where
   -- 20 to 23: a record that is read is refused with that number
   pub text_exactly_when : (n : ℕ) → 0 < n → (n ≡ 24 → ⊥)
       → (status_of (text_verdict size text) ≡ n) ↔ ((i : ℕ) × (reads_on text (reading_after size text i) ≡ true) × Given (checks_at size text (reading_after size text i)) n)
-  text_exactly_when n some other = (to (scanned size text).verdict refl, from)
+  text_exactly_when n some other = (to (said_by (scanned size text).progress) refl, from)
     where
       by_end : (test : Bool) → status_of (cond test (Ok tt) (Err NoEnd)) ≡ n → ⊥
       by_end true is = omega (arith, is)
       by_end false is = other (sym is)
 
-      to : (verdict : Verdict) → (scanned size text).verdict ≡ verdict → said_by_lem verdict ≡ n
+      to : (verdict : Verdict) → said_by (scanned size text).progress ≡ verdict → said_by_lem verdict ≡ n
           → (i : ℕ) × (reads_on text (at i) ≡ true) × Given (checks_at size text (at i)) n
       to (Ok tt) said is = absurd (by_end ends is)
       to (Err refusal) said is =
@@ -175,9 +176,9 @@ module _ (size : ℕ) (text : List ℕ) where
 
   -- 24: no record is refused, but there is no end record, or text stands behind it
   pub no_end_exactly_when : (status_of (text_verdict size text) ≡ 24) ↔ (NoneRefused size text × (Complete size text → ⊥))
-  no_end_exactly_when = (to (scanned size text).verdict refl, from)
+  no_end_exactly_when = (to (said_by (scanned size text).progress) refl, from)
     where
-      to : (verdict : Verdict) → (scanned size text).verdict ≡ verdict → said_by_lem verdict ≡ 24 → NoneRefused size text × (Complete size text → ⊥)
+      to : (verdict : Verdict) → said_by (scanned size text).progress ≡ verdict → said_by_lem verdict ≡ 24 → NoneRefused size text × (Complete size text → ⊥)
       to (Ok tt) said is = (passed_none said, λ complete. omega (arith, rw (complete_ends complete) at is))
       to (Err refusal) said is =
           let (i, on, refused) = refused_at_lem (length text) refusal said in
@@ -193,13 +194,13 @@ module _ (size : ℕ) (text : List ℕ) where
 
   -- 0: no record is refused, the end record came, and nothing stands behind it
   pub text_passes_exactly_when : (status_of (text_verdict size text) ≡ 0) ↔ (NoneRefused size text × Complete size text)
-  text_passes_exactly_when = (to (scanned size text).verdict refl, from)
+  text_passes_exactly_when = (to (said_by (scanned size text).progress) refl, from)
     where
       by_end : (test : Bool) → status_of (cond test (Ok tt) (Err NoEnd)) ≡ 0 → test ≡ true
       by_end true is = refl
       by_end false is = absurd (omega (arith, is))
 
-      to : (verdict : Verdict) → (scanned size text).verdict ≡ verdict → said_by_lem verdict ≡ 0 → NoneRefused size text × Complete size text
+      to : (verdict : Verdict) → said_by (scanned size text).progress ≡ verdict → said_by_lem verdict ≡ 0 → NoneRefused size text × Complete size text
       to (Ok tt) said is = (passed_none said, ends_complete (by_end ends is))
       to (Err refusal) said is = absurd (true≢false (ap is_ok (sym (status_passed (Err refusal) is))))
 

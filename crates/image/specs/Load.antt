@@ -1,6 +1,6 @@
 -- Loading: 10, 5, 7, then the text is checked whole, and only then is any byte stored. Protection does not apply, and the state is not
 -- changed (request E1).
-use Rattle.std.specs.Prelude.{ℕ, ◌+◌, List, length}
+use Rattle.std.specs.Prelude.{ℕ, ◌+◌, List, length, Result}
 use Rattle.base.specs.Store.{patched}
 use Rattle.refusal.specs.declared.Refusal.{Refusal}
 use Rattle.refusal.specs.Verdict.{Verdict}
@@ -12,17 +12,30 @@ use Rattle.lineup.specs.Chips.{places_of}
 use Rattle.line.specs.Line.{array_share}
 use Rattle.bus.specs.declared.Bus.{Bus}
 use Rattle.bus.specs.Step.{chip_checks}
-use Rattle.image.specs.declared.loading.Loaded.{Loaded}
+use Rattle.image.specs.declared.loading.LoadError.{LoadError}
 use Rattle.image.specs.Reading.{scanned, text_verdict}
 use Rattle.image.specs.Storing.{stored}
 
+-- what a load answers
+abbrev pub Loaded : Type 0
+Loaded = Result (Unit {0}) LoadError
+
 -- done: no line is at fault
 abbrev pub loaded : Loaded
-loaded = record { verdict = Ok tt; line = 0 }
+loaded = Ok tt
 
 -- refused at a line of the text, 1 for the first; before any of it is read, 0
 abbrev pub refused_at : Refusal → ℕ → Loaded
-refused_at refusal line = record { verdict = Err refusal; line = line }
+refused_at refusal line = Err (record { refusal = refusal; line = line })
+
+-- its verdict, and the line at fault, 0 where there is none
+abbrev pub load_verdict : Loaded → Verdict
+load_verdict (Ok tt) = Ok tt
+load_verdict (Err error) = Err error.refusal
+
+abbrev pub line_of : Loaded → ℕ
+line_of (Ok tt) = 0
+line_of (Err error) = error.line
 
 -- one chip's share, by what is said of the text
 abbrev pub share_by : Verdict → List ℕ → List ℕ → Loaded × List ℕ

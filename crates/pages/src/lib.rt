@@ -46,6 +46,7 @@ fn page_exists(count: usize, places: [Place; PLACES], chip: usize, store: u8, pa
 }
 
 // The question: 0, or 10, then 5, then 7.
+#[tactic(auto, unfolding(crate::specs::Page::page_verdict))]
 pub fn page_verdict(
     bus: Bus,
     array: &[u8],
@@ -56,17 +57,11 @@ pub fn page_verdict(
 ) -> Result<(), Refusal>
     ensures { result ≡ page_verdict bus array.now security.now chip store page }
 {
-    let verdict = bus.entry_verdict(array, security);
-    match verdict {
-        Err(refusal) => Err(refusal),
-        Ok(()) => {
-            let chips = bus.chips;
-            if page_exists(bus.count, places_of(chips), chip, store, page) {
-                Ok(())
-            } else {
-                Err(Refusal::WrongValue)
-            }
-        }
+    bus.entry_verdict(array, security)?;
+    if page_exists(bus.count, places_of(bus.chips), chip, store, page) {
+        Ok(())
+    } else {
+        Err(Refusal::WrongValue)
     }
 }
 

@@ -34,7 +34,6 @@ use Rattle.decode.specs.declared.Addressed.TheVariants.{ToAll, ToOne}
 use Rattle.decode.specs.Decode.{kind_of, addressed_of, reaches, event_of}
 use Rattle.decode.specs.Hearing.{clashes_with}
 use Rattle.lineup.specs.Chips.{no_chip, chip_at, control_at, place_of, places_of}
-use Rattle.lineup.specs.Wellformed.{well_formed}
 use Rattle.line.specs.declared.Played.{Played}
 use Rattle.line.specs.Line.{clash, play, chip_loads, values_after}
 use Rattle.bus.specs.declared.Bus.{Bus}

@@ -5,14 +5,13 @@ use Rattle.factory.specs.Serial.{marked}
 use Rattle.factory.proofs.mark.Goals as goal
 
 pub loop-i-init : goal.loop-i-init
-loop-i-init c = record { so_far = up_none _ _; as_long = refl; in_number = omega arith }
+loop-i-init c = record { so_far = up_none _ _; as_long = refl }
 
 pub loop-i-preserved : goal.loop-i-preserved
 loop-i-preserved c =
     record {
       so_far = up_more _ _ _ c.loop-i.invariant.so_far c.put.ensures;
       as_long = c.put.auto.security ∙ c.loop-i.invariant.as_long;
-      in_number = omega arith;
     }
 
 pub returns : goal.returns

@@ -6,6 +6,7 @@ use native.Mathlib.Omega.{arith}
 use mathlib.Core.Bool.{Bool, true, false, cond, not, false≢true}
 use mathlib.Core.List.{List, ◌++◌}
 use mathlib.Core.Path.{◌≡◌, ◌∙◌, refl, sym, ap, subst}
+use lib.Dec.{eqb}
 use lib.ListN.{length, take, drop, length-drop}
 use borrow.Author.Tests.{ltb-true, not-false}
 use Rattle.base.specs.Fold.{up_to}
@@ -20,13 +21,13 @@ use Rattle.std.specs.Result.{is_ok}
 use Rattle.refusal.proofs.Checks.{passed_exactly_when}
 use Rattle.board.specs.declared.Place.{Place}
 use Rattle.board.specs.Shares.{array_start}
-use Rattle.hexline.specs.Fields.{is_framed, line_size}
+use Rattle.hexline.specs.Fields.{end_kind, kind_in, is_framed, line_size}
 use Rattle.hexline.specs.Checks.{record_checks, bad_length}
 use Rattle.hexline.proofs.fields.Laws.{framed_fits, put_data_length}
-use Rattle.image.specs.declared.loading.Loaded.{Loaded}
+use Rattle.image.specs.declared.loading.Progress.TheVariants.{Open, Ended}
 use Rattle.image.specs.declared.loading.Reading.{Reading}
-use Rattle.image.specs.Reading.{begun, reads_on, rest_at, past, read_by, verdict_at, next_reading, read_on, reading_after, scanned}
-use Rattle.image.specs.Load.{in_place}
+use Rattle.image.specs.Reading.{is_open, said_by, begun, reads_on, rest_at, past, read_by, verdict_at, next_reading, read_on, reading_after, scanned}
+use Rattle.image.specs.Load.{Loaded, in_place}
 use Rattle.image.specs.Storing.{Storing, is_stored, next_storing, store_on, storing_after, stored}
 
 -- the same step again and again: once it changes nothing, it never does
@@ -56,6 +57,15 @@ passed_framed : (size upper : ℕ) (rest : List ℕ) → first_of (record_checks
 passed_framed size upper rest passes =
     not-false _ (or_none (not (is_framed rest)) (bad_length rest) ((passed_exactly_when (record_checks size upper rest)).0 (ap status_of passes)).0).0
 
+-- past a record that passes a reading goes on unless that was the end, and nothing is said against it
+pub open_by : (end : Bool) → is_open (cond end Ended Open) ≡ not end
+open_by true = refl
+open_by false = refl
+
+pub passes_by : (end : Bool) → said_by (cond end Ended Open) ≡ Ok tt
+passes_by true = refl
+passes_by false = refl
+
 -- the place lies in the text, and no record is shorter than a byte
 pub record Sane (text : List ℕ) (reading : Reading) : Type 0 where
   pub inside : reading.at ≤ length text
@@ -64,7 +74,7 @@ pub record Sane (text : List ℕ) (reading : Reading) : Type 0 where
 module _ (text : List ℕ) (reading : Reading) where
   -- where it goes on, text is left
   pub reads_inside : reads_on text reading ≡ true → reading.at < length text
-  reads_inside on = ltb-true _ _ (and_right (not reading.ended) _ (and_right (is_ok reading.verdict) _ on))
+  reads_inside on = ltb-true _ _ (and_right (is_open reading.progress) _ on)
 
 module _ (size : ℕ) (text : List ℕ) where
   pub read_idle : (reading : Reading) → reads_on text reading ≡ false → read_on size text reading ≡ reading
@@ -78,12 +88,12 @@ module _ (size : ℕ) (text : List ℕ) where
       omega (arith, framed_fits (rest_at text reading) (passed_framed size reading.upper (rest_at text reading) passes), length-drop reading.at text)
 
   -- a reading goes on from a record that passes, and says what was said of one that does not
-  pub next_passes : (reading : Reading) → is_ok (next_reading size text reading).verdict ≡ is_ok (verdict_at size text reading)
+  pub next_passes : (reading : Reading) → is_ok (said_by (next_reading size text reading).progress) ≡ is_ok (verdict_at size text reading)
   unfolding next_reading
   next_passes reading = go (verdict_at size text reading)
     where
-      go : (verdict : Verdict) → is_ok (read_by verdict (rest_at text reading) reading).verdict ≡ is_ok verdict
-      go (Ok tt) = refl
+      go : (verdict : Verdict) → is_ok (said_by (read_by verdict (rest_at text reading) reading).progress) ≡ is_ok verdict
+      go (Ok tt) = ap is_ok (passes_by (eqb (kind_in (rest_at text reading)) end_kind))
       go (Err refusal) = refl
 
   pub next_sane : (reading : Reading) → Sane text reading → Sane text (next_reading size text reading)

@@ -21,20 +21,20 @@ accepted : (bus : Bus) (array security : List ℕ) (chip store page : ℕ) {verd
 accepted bus array security chip store page asked tests holds = sym asked ∙ passed _ (sym tests ∙ holds)
 
 pub offset_bounds-places-chip : goal.offset_bounds-places-chip
-offset_bounds-places-chip c = omega (arith, chip_below _ _ _ _ _ _ (accepted c.args.bus c.args.array.now c.args.security.now c.args.chip c.args.store c.args.page c.page_verdict.ensures c.is_ok.ensures.value c.if-is_passed.true))
+offset_bounds-places-chip c = omega (arith, chip_below _ _ _ _ _ _ (accepted c.args.bus c.args.array.now c.args.security.now c.args.chip c.args.store c.args.page c.page_verdict.ensures c.is_ok.ensures.value c.if-is_ok.true))
 
 pub bounds-places-chip : goal.bounds-places-chip
-bounds-places-chip c = chip_below _ _ _ _ _ _ (accepted c.args.bus c.args.array.now c.args.security.now c.args.chip c.args.store c.args.page c.page_verdict.ensures c.is_ok.ensures.value c.if-is_passed.true)
+bounds-places-chip c = chip_below _ _ _ _ _ _ (accepted c.args.bus c.args.array.now c.args.security.now c.args.chip c.args.store c.args.page c.page_verdict.ensures c.is_ok.ensures.value c.if-is_ok.true)
 
 pub page_start-at-requires : goal.page_start-at-requires
 page_start-at-requires c =
-    let asked = (accepted c.args.bus c.args.array.now c.args.security.now c.args.chip c.args.store c.args.page c.page_verdict.ensures c.is_ok.ensures.value c.if-is_passed.true) in
+    let asked = (accepted c.args.bus c.args.array.now c.args.security.now c.args.chip c.args.store c.args.page c.page_verdict.ensures c.is_ok.ensures.value c.if-is_ok.true) in
     (chip_below _ _ _ _ _ _ asked, rw c.places_of-places.ensures (page_there _ _ _ _ _ _ asked))
 
 pub between-requires : goal.between-requires
 between-requires c =
-    rw (c.page_start-at.ensures, c.geometry_of-size.ensures, c.places_of-places.ensures) (in_array _ _ _ _ _ _ (accepted c.args.bus c.args.array.now c.args.security.now c.args.chip c.args.store c.args.page c.page_verdict.ensures c.is_ok.ensures.value c.if-is_passed.true) (eq-eqb _ _ c.if-store-eq-ARRAY.true))
+    rw (c.page_start-at.ensures, c.geometry_of-size.ensures, c.places_of-places.ensures) (in_array _ _ _ _ _ _ (accepted c.args.bus c.args.array.now c.args.security.now c.args.chip c.args.store c.args.page c.page_verdict.ensures c.is_ok.ensures.value c.if-is_ok.true) (eq-eqb _ _ c.if-store-eq-ARRAY.true))
 
-pub between-requires-then-is_passed : goal.between-requires-then-is_passed
-between-requires-then-is_passed c =
-    rw (c.page_start-at.ensures, c.geometry_of-size.ensures, c.places_of-places.ensures) (in_security _ _ _ _ _ _ (accepted c.args.bus c.args.array.now c.args.security.now c.args.chip c.args.store c.args.page c.page_verdict.ensures c.is_ok.ensures.value c.if-is_passed.true) (ne_eqb _ _ c.if-store-eq-ARRAY.false))
+pub between-requires-then-is_ok : goal.between-requires-then-is_ok
+between-requires-then-is_ok c =
+    rw (c.page_start-at.ensures, c.geometry_of-size.ensures, c.places_of-places.ensures) (in_security _ _ _ _ _ _ (accepted c.args.bus c.args.array.now c.args.security.now c.args.chip c.args.store c.args.page c.page_verdict.ensures c.is_ok.ensures.value c.if-is_ok.true) (ne_eqb _ _ c.if-store-eq-ARRAY.false))

@@ -25,17 +25,17 @@ returns-then-answers-events c =
     let a = c.args in
     ap (answer a.self a.array.now a.security.now a.events.now a.answers.now) (sym (lt-ltb _ _ c.if-answers-events.true))
 
-pub returns-in-Refused : goal.returns-in-Refused
+pub returns-in-Err : goal.returns-in-Err
 unfolding run
-returns-in-Refused c =
+returns-in-Err c =
     let a = c.args in
-    ap (λ (v : Verdict). run_by v a.events.now (a.self, a.array.now, a.security.now, a.answers.now)) (sym c.in-Refused.is ∙ c.entry_verdict-verdict.ensures)
+    ap (λ (v : Verdict). run_by v a.events.now (a.self, a.array.now, a.security.now, a.answers.now)) (sym c.in-Err.is ∙ c.entry_verdict-verdict.ensures)
     ∙ ap (answer a.self a.array.now a.security.now a.events.now a.answers.now) (sym (le-ltb _ _ c.if-answers-events.false))
 
-pub returns-in-Passed : goal.returns-in-Passed
+pub returns-in-Ok : goal.returns-in-Ok
 unfolding run
-returns-in-Passed c =
+returns-in-Ok c =
     let a = c.args in
     ap (λ (progress : Progress). ((Ok tt), progress)) c.run_all.ensures
-    ∙ ap (λ (v : Verdict). run_by v a.events.now (a.self, a.array.now, a.security.now, a.answers.now)) (sym c.in-Passed.is ∙ c.entry_verdict-verdict.ensures)
+    ∙ ap (λ (v : Verdict). run_by v a.events.now (a.self, a.array.now, a.security.now, a.answers.now)) (sym c.in-Ok.is ∙ c.entry_verdict-verdict.ensures)
     ∙ ap (answer a.self a.array.now a.security.now a.events.now a.answers.now) (sym (le-ltb _ _ c.if-answers-events.false))

@@ -1,5 +1,4 @@
 -- The text is checked whole first; only where it passes is the share touched.
-use borrow.Author.Rules.{rules}
 use Prim.Native.Nat.{ℕ}
 use native.Mathlib.Omega.{arith}
 use mathlib.Core.Path.{◌≡◌, ◌∙◌, sym, ap}
@@ -20,24 +19,20 @@ overflow_add-result c =
     let sane = after_sane (length a.share.now) a.text.now (length a.text.now) in
     omega (arith, ap lines_of c.scan-reading.ensures, sane.inside, sane.fewer)
 
-pub returns-in-Refused : goal.returns-in-Refused
+pub returns-in-Err : goal.returns-in-Err
 unfolding load_share
-returns-in-Refused c =
+returns-in-Err c =
     let a = c.args in
-    let text = a.text.now in
-    let share = a.share.now in
-    let refused : text_verdict (length share) text ≡ Err _ =
-    ap (verdict_of text) (sym c.scan-reading.ensures) ∙ sym c.verdict_of-verdict.ensures ∙ c.in-Refused.is
+    let refused : text_verdict (length a.share.now) a.text.now ≡ Err _ =
+    ap (verdict_of a.text.now) (sym c.scan-reading.ensures) ∙ sym c.verdict_of.ensures ∙ c.in-Err.is
     in
     rw (refused, c.scan-reading.ensures)
 
-pub returns-in-Passed : goal.returns-in-Passed
+pub returns : goal.returns
 unfolding load_share
-returns-in-Passed c =
+returns c =
     let a = c.args in
-    let text = a.text.now in
-    let share = a.share.now in
-    let passes : text_verdict (length share) text ≡ Ok tt =
-    ap (verdict_of text) (sym c.scan-reading.ensures) ∙ sym c.verdict_of-verdict.ensures ∙ c.in-Passed.is
+    let passes : text_verdict (length a.share.now) a.text.now ≡ Ok tt =
+    ap (verdict_of a.text.now) (sym c.scan-reading.ensures) ∙ sym c.verdict_of.ensures ∙ c.in_default.is
     in
     rw (passes, c.store_all.ensures)

@@ -5,6 +5,7 @@
 pub mod page;
 pub mod status;
 pub mod trace;
+pub mod words;
 
 ghost use Rattle.std.specs.Prelude.{◌≡◌};
 ghost use Rattle.asking.specs.Asking.{opens, asked_of, asked_by};

@@ -1,7 +1,7 @@
 // Whole files, by name. No contract can say what a file holds, only that what was read fits the buffer.
 #![tactic(auto)]
 
-ghost use Rattle.std.specs.Prelude.{◌≡◌, ◌≤◌, length};
+ghost use Rattle.std.specs.Prelude.{◌≡◌, ◌≤◌, ◌++◌, length, IfSome};
 ghost use Rattle.std.specs.Io.{ReadsAtMost};
 ghost use Rattle.files.specs.Content.{size_of};
 
@@ -123,4 +123,18 @@ pub fn prepare(files: &impl Files, path: &[u8]) -> io::Result<()> {
         Err(error) if error.kind() == ErrorKind::NotFound => write_whole(files, path, b""),
         Err(error) => Err(error),
     }
+}
+
+// The name with its ending, at the start of a room for it.
+pub fn with_ending<'a>(name: &[u8], ending: &[u8], room: &'a mut [u8]) -> Option<&'a [u8]>
+    ensures { IfSome result (λ path. path.now ≡ name.now ++ ending.now) }
+{
+    if room.len() < name.len() || room.len() - name.len() < ending.len() {
+        return None;
+    }
+    let path = &mut room[..name.len() + ending.len()];
+    let (start, end) = path.split_at_mut(name.len());
+    start.copy_from_slice(name);
+    end.copy_from_slice(ending);
+    Some(path)
 }

@@ -1,6 +1,6 @@
 // The board that is asked for: how many chips it has, and where, and how much of a memory it fills.
 ghost use Rattle.std.specs.Prelude.{◌≡◌, ◌≤◌};
-ghost use Rattle.placing.specs.Layout.{bare, with_chip, paper_board, array_end, security_end};
+ghost use Rattle.placing.specs.Layout.{bare, with_chip, paper_board, or_paper, array_end, security_end};
 
 use board::shares::{array_start, security_start};
 use board::{PLACES, Place};
@@ -51,6 +51,13 @@ impl Board {
                 Place { part: 0, strap: 0 },
             ],
         }
+    }
+
+    // The board itself, or where it has no chips the paper's.
+    pub fn or_paper(self) -> Self
+        ensures { result ≡ or_paper self }
+    {
+        if self.count == 0 { Self::of_paper() } else { self }
     }
 
     // Where its arrays end in a memory of some length: no later than the memory does.

@@ -89,3 +89,26 @@ pub fn write_on<W: Write>(clock: &impl Clock, to: &mut W, text: &[u8]) -> io::Re
     }
     Err(Error::from(ErrorKind::TimedOut))
 }
+
+// A writer that is written to with patience.
+pub struct Patient<'a, C, W> {
+    clock: &'a C,
+    to: W,
+}
+
+impl<'a, C: Clock, W: Write> Patient<'a, C, W> {
+    pub fn new(clock: &'a C, to: W) -> Self {
+        Self { clock, to }
+    }
+}
+
+impl<C: Clock, W: Write> Write for Patient<'_, C, W> {
+    fn write(&mut self, text: &[u8]) -> io::Result<usize> {
+        write_on(self.clock, &mut self.to, text)?;
+        Ok(text.len())
+    }
+
+    fn flush(&mut self) -> io::Result<()> {
+        self.to.flush()
+    }
+}

@@ -1,7 +1,7 @@
 // The fields of a record, from the text from the record on: `:`, two digits for each byte (how many data bytes, the address in two, the
 // type, the data, a check byte), then LF or CR LF (request E1).
-ghost use Rattle.std.specs.Prelude.{ℕ, ◌+◌, ◌*◌, ◌≡◌, set};
-ghost use Rattle.std.specs.List.{list_all, range_with_len};
+ghost use Rattle.std.specs.Prelude.{◌≡◌, set};
+ghost use Rattle.std.specs.List.{list_all};
 ghost use Rattle.hexline.specs.Digit.{is_hex_digit};
 ghost use Rattle.hexline.specs.Fields.{char_at, byte_at, count_in, address_in, kind_in, upper_in, bytes_in, sum_in, end_at, end_size, line_size, is_framed, first_address, put_data};
 
@@ -117,17 +117,17 @@ pub fn line_size(rest: &[u8]) -> usize
     end_at(rest) + end_size(rest)
 }
 
-fn all_digits(rest: &[u8]) -> bool
-    ensures { result ≡ list_all (λ (i : ℕ). is_hex_digit (char_at rest.now (1 + i))) (range_with_len 0 (2 * bytes_in rest.now)) }
+fn all_digits(text: &[u8]) -> bool
+    ensures { result ≡ list_all is_hex_digit text.now }
 {
-    (0..2 * bytes_in(rest) as usize).all(|i| is_hex_digit(char_at(rest, 1 + i)))
+    text.iter().all(|byte| is_hex_digit(*byte))
 }
 
-// A record stands here, whatever its type.
+// A record stands here, whatever its type. Where its line ends, its digits stand in the text.
 pub fn is_framed(rest: &[u8]) -> bool
     ensures { result ≡ is_framed rest.now }
 {
-    char_at(rest, 0) == COLON && all_digits(rest) && 0 < end_size(rest)
+    char_at(rest, 0) == COLON && 0 < end_size(rest) && all_digits(&rest[1..end_at(rest)])
 }
 
 // The array address of the first data byte.

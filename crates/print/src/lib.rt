@@ -49,13 +49,13 @@ fn word_text(word: u16) -> [u8; WORD_DIGITS]
     [a, b, c, d]
 }
 
+// Kind and value, status and reply, two digits each.
 pub fn printed(event: u16, answer: u16) -> [u8; PRINTED_BYTES]
     ensures { result ≡ printed event answer }
 {
-    let mut line = [LF; PRINTED_BYTES];
-    line[..WORD_DIGITS].copy_from_slice(&word_text(event));
-    line[WORD_DIGITS..2 * WORD_DIGITS].copy_from_slice(&word_text(answer));
-    line
+    let [a, b, c, d] = word_text(event);
+    let [e, f, g, h] = word_text(answer);
+    [a, b, c, d, e, f, g, h, LF]
 }
 
 // The line that ends a run: no event, the number of a refusal, reply 00.

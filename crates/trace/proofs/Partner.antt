@@ -2,9 +2,9 @@
 use Prim.Native.Nat.{ℕ, zero, suc, ◌<◌}
 use native.Mathlib.Decide.{dec_lt}
 use native.Mathlib.Omega.{arith}
-use mathlib.Core.Bool.{Bool, true, false, cond, false≢true}
+use mathlib.Core.Bool.{Bool, true, false, cond}
 use mathlib.Core.List.{List}
-use mathlib.Core.Path.{◌≡◌, ◌∙◌, refl, sym, ap, subst}
+use mathlib.Core.Path.{◌≡◌, refl}
 use Rattle.std.specs.Prelude.{Option, Some, None}
 use Rattle.base.specs.Fold.{up_to}
 use Rattle.base.proofs.Fold.{all_pairs_at}
@@ -32,15 +32,10 @@ module _ (test : Test) (chips : List Chip) where
   one_found : (n i : ℕ) → i < n → holds_at test chips i ≡ true → ((j : ℕ) → j < n → holds_at test chips j ≡ true → j ≡ i) → found n ≡ Some i
   unfolding up_to
   one_found zero i below here only = absurd (omega arith)
-  one_found (suc n) i below here only =
-      by (holds_at test chips n) refl (dec_lt i n) (λ (p : i < n). one_found n i p here (λ j before. only j (omega arith)))
-    where
-      by : (last : Bool) → holds_at test chips n ≡ last → Dec (i < n) → (i < n → found n ≡ Some i) → cond last (Some n) (found n) ≡ Some i
-      by true is where_it_is earlier = ap Some (only n (omega arith) is)
-      by false is (yes p) earlier = earlier p
-      by false is (no p) earlier =
-          let last : i ≡ n = omega arith in
-          absurd (false≢true (sym is ∙ subst (λ (k : ℕ). holds_at test chips k ≡ true) last here))
+  one_found (suc n) i below here only = elim (dec_lt i n) [
+    | yes p ↦ grind (arith, only n, one_found n i p here (λ j before. only j (omega arith)))
+    | no p ↦ let last : i ≡ n = omega arith in grind (arith, here, last)
+  ]
 
 -- two chips side by side are not both the host's partner
 not_both : (c d : Control) → side_by_side c d ≡ true → is_partner c.phase ≡ true → is_partner d.phase ≡ true → ⊥

@@ -12,6 +12,7 @@ use arguments::{Arguments, tell_fault, tell_status};
 use block::{close, next_block, read_block};
 use bus::Bus;
 use conversation::converse;
+use conversation::tape::text_on;
 use errands::telling::{tell_failure, tell_refusal};
 use errands::{Errands, Undone, blank_text};
 use factory::{erased_arrays, erased_registers, mark_serials};
@@ -43,7 +44,8 @@ fn answer_input(
             ControlFlow::Break(status) => return status,
             ControlFlow::Continue(block) => {
                 let before = held;
-                let heard = converse(&mut held, array, security, tape, block.filled, said);
+                let text = text_on(tape, block.filled);
+                let heard = converse(&mut held, array, security, text, said);
                 next = next_block(rt, block, heard, before, held, tape, said);
             }
         }

@@ -1,6 +1,7 @@
 // A recording: the file NAME has a transcript, NAME.answers what the bench must answer.
 use bus::Bus;
 use conversation::answer_all;
+use conversation::tape::text_on;
 use factory::{erased_arrays, erased_registers, mark_serials};
 use files::{read_whole, with_ending};
 use placing::layout::Board;
@@ -32,13 +33,12 @@ fn answers_on(
     board: Board,
     array: &mut [u8],
     security: &mut [u8],
-    tape: &[u8],
-    filled: usize,
+    text: &[u8],
     said: &mut [u8],
 ) -> usize {
     mark_serials(board.count, board.places, security);
     match Bus::set_up(board.count, board.places, array, security) {
-        Ok(bus) => answer_all(bus, array, security, tape, filled, said).written,
+        Ok(bus) => answer_all(bus, array, security, text, said).written,
         Err(refusal) => {
             if PRINTED_BYTES <= said.len() {
                 said[..PRINTED_BYTES].copy_from_slice(&closing(u8::from(refusal)));
@@ -75,7 +75,7 @@ fn compare(rt: &HostRuntime, name: &[u8], said: &[u8], recorded: &[u8]) -> bool 
 }
 
 // The answers on a board, which is lent memories of its size.
-fn answers_of(board: Board, tape: &[u8], filled: usize, said: &mut [u8]) -> usize {
+fn answers_of(board: Board, text: &[u8], said: &mut [u8]) -> usize {
     let mut array = erased_arrays();
     let mut security = erased_registers();
     let array_end = board.array_end(array.len());
@@ -84,8 +84,7 @@ fn answers_of(board: Board, tape: &[u8], filled: usize, said: &mut [u8]) -> usiz
         board,
         &mut array[..array_end],
         &mut security[..security_end],
-        tape,
-        filled,
+        text,
         said,
     )
 }
@@ -102,8 +101,6 @@ pub fn as_recorded(rt: &HostRuntime, name: &[u8], board: Board) -> bool {
         return false;
     };
     let mut said = [0u8; ANSWERS];
-    let written = answers_of(board, &tape, filled, &mut said);
-    let said_end = written.min(ANSWERS);
-    let recorded_end = size.min(ANSWERS);
-    compare(rt, name, &said[..said_end], &recorded[..recorded_end])
+    let written = answers_of(board, text_on(&tape, filled), &mut said);
+    compare(rt, name, text_on(&said, written), text_on(&recorded, size))
 }

@@ -30,7 +30,6 @@ use Rattle.decode.specs.Decode.{reaches, event_of}
 use Rattle.decode.specs.Hearing.{lacks_cycle, clashes_with}
 use Rattle.lineup.specs.Chips.{chip_at, control_at}
 use Rattle.line.specs.Line.{not_busy, clash, play, chip_loads, values_after, line_reply}
-use Rattle.bus.specs.declared.Stepped.{Stepped}
 use Rattle.bus.specs.Step.{bus_with, remembers, refused, played, step}
 use Rattle.bus.proofs.Entry.{Entered, entered}
 use Rattle.bus.proofs.Typed.{has_four}

@@ -27,7 +27,6 @@ use Rattle.decode.specs.Decode.{addressed_of, reaches, event_of}
 use Rattle.lineup.specs.Chips.{no_chip, chip_at, places_of}
 use Rattle.line.specs.Line.{OnLine, chips_of, array_share, security_share, landed, chip_takes, play, chip_loads, values_after}
 use Rattle.bus.specs.declared.Bus.{Bus}
-use Rattle.bus.specs.declared.Stepped.{Stepped}
 use Rattle.bus.specs.Step.{event_checks, bus_with, remembers, done, played, step_by, event, step}
 use Rattle.bus.proofs.Entry.{Entered, entered}
 use Rattle.bus.proofs.Typed.{count_fits, has_four, every_typed, ValuesTyped, values_typed, bus_typed}

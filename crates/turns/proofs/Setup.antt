@@ -90,8 +90,7 @@ module _ (call : SetUpCall) where
 
   pub a_set_up_is_ready : (bus : Bus) → call.result ≡ Ok bus → OfItsType bus × Ready (bus, array, security)
   a_set_up_is_ready bus is =
-      let made = sym call.ensured ∙ is in
-      (
+      let made = sym call.ensured ∙ is in (
         set_up_typed call bus is,
         subst (λ (up : Result Bus Refusal). Ready (state_of up, array, security)) made
             (set_up_is_ready call.arguments.0 call.arguments.1.0 array security (ap verdict_of made)),

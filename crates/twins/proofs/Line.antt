@@ -40,7 +40,7 @@ use Rattle.decode.specs.Hearing.{clashes_with}
 use Rattle.lineup.specs.Chips.{places_of}
 use Rattle.line.specs.Line.{line_checks, array_share, heard, line_reply, values_after}
 use Rattle.bus.specs.declared.Bus.{Bus}
-use Rattle.bus.specs.Step.{entry_checks, event_checks, step_checks, remembers, refused, played, step_by, event, step}
+use Rattle.bus.specs.Step.{entry_checks, event_checks, step_checks, remembers, played, step_by, event, step}
 use Rattle.bus.proofs.Entry.{Entered, entered}
 use Rattle.promises.specs.Own.{own}
 use Rattle.promises.specs.Playing.{World, Made, bus_of, stepped, led_to, after_one, answer_to, after, answers_to}

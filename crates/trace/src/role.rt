@@ -2,7 +2,7 @@
 ghost use Rattle.std.specs.Prelude.{◌≡◌};
 ghost use Rattle.trace.specs.Role.{address_role, choice_role, byte_act, read_act, sent_role, role_of};
 
-use crate::chips::{NOBODY, Test, chip_at, is_array_byte, who};
+use crate::chips::{Test, chip_at, is_array_byte, who};
 use crate::dropped::{Dropped, dropped_of};
 use crate::ending::{Ending, ending_of};
 use board::PLACES;
@@ -10,10 +10,10 @@ use chip::Chip;
 use chip::event::Event;
 use control::phase::{Data, Phase, Source, Word};
 
-// A chip by its number, or NOBODY.
+// What the event is, and the number of the chip that it is for, if there is one.
 #[derive(Clone, Copy)]
 pub struct Role {
-    pub chip: usize,
+    pub chip: Option<usize>,
     pub act: Act,
 }
 
@@ -53,35 +53,32 @@ const F9: u8 = 0xF9;
 fn address_role(byte: u8, count: usize, chips: [Chip; PLACES]) -> Role
     ensures { result ≡ address_role byte count chips }
 {
-    if byte == F8 {
-        return Role {
-            chip: NOBODY,
+    match byte {
+        F8 => Role {
+            chip: None,
             act: Act::HostF8,
-        };
-    }
-    if byte == F9 {
-        return Role {
+        },
+        F9 => Role {
             chip: who(Test::Chosen, count, chips),
             act: Act::HostF9,
-        };
-    }
-    Role {
-        chip: who(Test::HasAddress(byte), count, chips),
-        act: Act::Address,
+        },
+        _ => Role {
+            chip: who(Test::HasAddress(byte), count, chips),
+            act: Act::Address,
+        },
     }
 }
 
 fn choice_role(byte: u8, count: usize, chips: [Chip; PLACES]) -> Role
     ensures { result ≡ choice_role byte count chips }
 {
-    if is_array_byte(byte) {
-        return Role {
-            chip: who(Test::HasAddress(byte), count, chips),
-            act: Act::Choice,
-        };
-    }
+    let chip = if is_array_byte(byte) {
+        who(Test::HasAddress(byte), count, chips)
+    } else {
+        None
+    };
     Role {
-        chip: NOBODY,
+        chip,
         act: Act::Choice,
     }
 }
@@ -91,13 +88,10 @@ fn byte_act(phase: Phase) -> Act
     ensures { result ≡ byte_act phase }
 {
     match phase {
-        Phase::Standby => Act::ForNobody,
-        Phase::Busy => Act::ForNobody,
-        Phase::AwaitsAddress => Act::ForNobody,
-        Phase::AwaitsChoice => Act::ForNobody,
         Phase::AwaitsWord(word) => Act::WordByte(word),
         Phase::TakesData(kind) => Act::DataByte(kind),
         Phase::SendsByte(_) => Act::ForSender,
+        _ => Act::ForNobody,
     }
 }
 
@@ -106,13 +100,8 @@ fn read_act(phase: Phase) -> Act
     ensures { result ≡ read_act phase }
 {
     match phase {
-        Phase::Standby => Act::ReadFromNobody,
-        Phase::Busy => Act::ReadFromNobody,
-        Phase::AwaitsAddress => Act::ReadFromNobody,
-        Phase::AwaitsChoice => Act::ReadFromNobody,
-        Phase::AwaitsWord(_) => Act::ReadFromNobody,
-        Phase::TakesData(_) => Act::ReadFromNobody,
         Phase::SendsByte(source) => Act::ReadFrom(source),
+        _ => Act::ReadFromNobody,
     }
 }
 
@@ -120,7 +109,7 @@ fn read_act(phase: Phase) -> Act
 fn sent_role(
     first: bool,
     byte: u8,
-    partner: usize,
+    partner: Option<usize>,
     phase: Phase,
     count: usize,
     chips: [Chip; PLACES],
@@ -128,14 +117,14 @@ fn sent_role(
     ensures { result ≡ sent_role first byte partner phase count chips }
 {
     if first {
-        return address_role(byte, count, chips);
-    }
-    if who(Test::Awaits, count, chips) < NOBODY {
-        return choice_role(byte, count, chips);
-    }
-    Role {
-        chip: partner,
-        act: byte_act(phase),
+        address_role(byte, count, chips)
+    } else if who(Test::Awaits, count, chips).is_some() {
+        choice_role(byte, count, chips)
+    } else {
+        Role {
+            chip: partner,
+            act: byte_act(phase),
+        }
     }
 }
 
@@ -146,33 +135,15 @@ pub fn role_of(event: Event, named: usize, count: usize, chips: [Chip; PLACES]) 
 {
     let partner = who(Test::Partner, count, chips);
     let met = chip_at(chips, partner);
-    let control = met.control;
-    let phase = control.phase;
-    match event {
-        Event::Start => Role {
-            chip: partner,
-            act: Act::Start(dropped_of(met)),
-        },
-        Event::Stop => Role {
-            chip: partner,
-            act: Act::Stop(ending_of(met)),
-        },
-        Event::Sent(first, byte) => sent_role(first, byte, partner, phase, count, chips),
-        Event::Read(_) => Role {
-            chip: partner,
-            act: read_act(phase),
-        },
-        Event::Wp(level) => Role {
-            chip: named,
-            act: Act::Wp(level),
-        },
-        Event::CycleOver => Role {
-            chip: named,
-            act: Act::CycleOver,
-        },
-        Event::PowerUp => Role {
-            chip: partner,
-            act: Act::PowerUp(dropped_of(met)),
-        },
-    }
+    let phase = met.control.phase;
+    let (chip, act) = match event {
+        Event::Start => (partner, Act::Start(dropped_of(met))),
+        Event::Stop => (partner, Act::Stop(ending_of(met))),
+        Event::Sent(first, byte) => return sent_role(first, byte, partner, phase, count, chips),
+        Event::Read(_) => (partner, read_act(phase)),
+        Event::Wp(level) => (Some(named), Act::Wp(level)),
+        Event::CycleOver => (Some(named), Act::CycleOver),
+        Event::PowerUp => (partner, Act::PowerUp(dropped_of(met))),
+    };
+    Role { chip, act }
 }

@@ -1,21 +1,23 @@
 -- What was found so far is the definition's up to i.
-use Prim.Native.Nat.{ℕ, ◌-◌, ◌≤◌}
-use native.Mathlib.Omega.{arith}
-use mathlib.Core.Bool.{Bool, cond}
-use mathlib.Core.Path.{◌≡◌, ◌∙◌, ap}
-use borrow.Author.Rules.{rules}
-use Rattle.base.specs.Fold.{up_to}
+use Rattle.std.proofs.Common.{◌∙◌, sym, rules}
 use Rattle.base.proofs.Fold.{up_none, up_more, up_end}
-use Rattle.board.proofs.Laws.{placed_most}
-use Rattle.trace.specs.Chips.{nobody, holds_at, who}
+use Rattle.trace.specs.Chips.{who}
+use Rattle.trace.proofs.Placed.{placed_holds, placed_end}
 use Rattle.trace.proofs.chips.who.Goals as goal
+use Rattle.trace.proofs.chips.who.Goals.{then-holds, else-holds}
 
 pub loop-i-init : goal.loop-i-init
-loop-i-init c = (up_none _ _, omega arith)
+loop-i-init c = up_none _ _
 
 pub loop-i-preserved : goal.loop-i-preserved
-loop-i-preserved c = (up_more _ _ _ c.loop-i.invariant.0 (c.either-found.ensures ∙ ap (λ (held : Bool). cond held c.loop-i.i c.loop-i.found) c.holds_at.ensures), omega arith)
+loop-i-preserved c =
+    let held = sym (c.holds.ensures ∙ placed_holds c.args.test c.placed.result c.args.chips c.loop-i.i c.loop-i-test.true) in
+    up_more _ _ _ c.loop-i.invariant
+    (elim c.if-holds.branch [
+      | then-holds w ↦ rw (held ∙ w.if-holds.true) w.found-is
+      | else-holds w ↦ rw (held ∙ w.if-holds.false) w.found-is
+    ])
 
 pub returns : goal.returns
 unfolding who
-returns c = up_end _ _ (omega (arith, c.placed-n.ensures)) c.loop-i.invariant.0
+returns c = up_end _ _ (placed_end c.args.count c.args.chips (search rules) c.placed.ensures c.loop-i-test.false c.loop-i.auto.i-end) c.loop-i.invariant

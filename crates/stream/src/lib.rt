@@ -91,6 +91,7 @@ pub fn write_on<W: Write>(clock: &impl Clock, to: &mut W, text: &[u8]) -> io::Re
 }
 
 // A writer that is written to with patience.
+#[derive(Drop)]
 pub struct Patient<'a, C, W> {
     clock: &'a C,
     to: W,

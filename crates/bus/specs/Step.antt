@@ -5,7 +5,7 @@ use Rattle.chip.specs.declared.event.Event.{Event}
 use Rattle.chip.specs.declared.event.Event.TheVariants.{Start, Stop, Sent, Read, Wp, CycleOver, PowerUp}
 use Rattle.refusal.specs.declared.Refusal.{Refusal}
 use Rattle.refusal.specs.declared.Refusal.TheVariants.{NotWellFormed, WrongLength, WrongValue}
-use Rattle.refusal.specs.Verdict.{Verdict}
+use Rattle.refusal.specs.Verdict.{Verdict, Answer}
 use Rattle.std.specs.Prelude.{Ok, Err}
 use Rattle.refusal.specs.Checks.{first_of}
 use Rattle.board.specs.Stores.{WithStores, array_of, security_of}
@@ -17,7 +17,6 @@ use Rattle.lineup.specs.Wellformed.{well_formed}
 use Rattle.line.specs.Line.{line_checks, OnLine, chips_of, said_of, play_with, line_reply}
 use Rattle.bus.specs.declared.Bus.{Bus}
 use Rattle.bus.specs.declared.Stepped.{Stepped}
-use Rattle.bus.specs.declared.Done.{Done}
 
 -- the state, then both stores
 abbrev pub entry_checks : Bus → List ℕ → List ℕ → List (Bool × Refusal)
@@ -37,12 +36,12 @@ event_checks bus word = decode_checks bus.count word ++ line_checks (addressed_o
 abbrev pub step_checks : Bus → List ℕ → List ℕ → ℕ → List (Bool × Refusal)
 step_checks bus array security word = entry_checks bus array security ++ event_checks bus word
 
--- a state of its parts, and what is handed back of one: what an event leaves and its answer, beside the count and the values
+-- a state of its parts, and one beside the answer to the event that left it
 abbrev pub bus_with : ℕ → Bool → List Chip → List ℕ → Bus
 bus_with count started chips values = record { count = count; started = started; chips = chips; values = values }
 
-abbrev pub handed : ℕ → Done → List ℕ → Stepped
-handed count done values = record { bus = bus_with count done.started done.chips values; answer = done.answer }
+abbrev pub answered : Bus → Answer → Stepped
+answered bus answer = record { bus = bus; answer = answer }
 
 -- whether a Start is remembered after an event that is done: an address byte is the first byte sent after it, no read that was done, Stop or
 -- power up between (request E8)

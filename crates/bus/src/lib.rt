@@ -1,12 +1,13 @@
 // The bench's bus: one to four chips on a line, set up, stepped and run (paper, "What the bench plays" and "Events and replies").
 #![tactic(auto)]
 
-ghost use Rattle.std.specs.Prelude.{◌≡◌, ◌≤◌, length, []};
+ghost use Rattle.std.specs.Prelude.{◌≡◌, ◌≤◌, ◌∷◌, length, ltb, Ok};
+ghost use Rattle.refusal.specs.declared.Refusal.TheVariants.{ShortBuffer};
 ghost use Rattle.refusal.specs.Checks.{first_of};
 ghost use Rattle.board.specs.Place.{placed};
 ghost use Rattle.lineup.specs.Wellformed.{well_formed};
 ghost use Rattle.bus.specs.Setup.{empty, set_up_checks, fresh_chips, set_up};
-ghost use Rattle.bus.specs.Step.{entry_checks, chip_checks, bus_with, handed, event_checks, remembers, played, event, step_given, step};
+ghost use Rattle.bus.specs.Step.{answered, entry_checks, chip_checks, event_checks, remembers, played, event, step_given, step};
 ghost use Rattle.bus.specs.Run.{run_up_to, outcome, run};
 
 use board::shares::wrong_length;
@@ -14,7 +15,7 @@ use board::{PLACES, Place, board_verdict, placed};
 use chip::Chip;
 use chip::event::Event;
 use decode::{Addressed, addressed_of, decode_verdict, event_of};
-use line::{line_reply, line_verdict};
+use line::{Played, line_reply, line_verdict};
 use lineup::places_of;
 use load::PAGE_MOST;
 use refusal::{Refusal, answer_word};
@@ -65,19 +66,18 @@ impl Bus {
         ensures { result ≡ set_up count places array.now security.now }
     {
         set_up_verdict(count, places, array, security)?;
+        let chips = fresh_chips(count, places);
         Ok(Bus {
             count,
-            chips: fresh_chips(count, places),
-            values: [0; PAGE_MOST],
-            started: false,
+            chips,
+            ..Bus::empty()
         })
     }
 
     pub fn well_formed(self) -> bool
         ensures { result ≡ well_formed self.count self.started self.chips }
     {
-        let chips = self.chips;
-        lineup::well_formed(self.count, self.started, chips)
+        lineup::well_formed(self.count, self.started, self.chips)
     }
 
     // Checks 10 and 5, which a step, a run and a page question begin with.
@@ -85,13 +85,17 @@ impl Bus {
         ensures { result ≡ first_of (entry_checks self array.now security.now) }
     {
         if !self.well_formed() {
-            return Err(Refusal::NotWellFormed);
+            Err(Refusal::NotWellFormed)
+        } else if wrong_length(
+            self.count,
+            places_of(self.chips),
+            array.len(),
+            security.len(),
+        ) {
+            Err(Refusal::WrongLength)
+        } else {
+            Ok(())
         }
-        let chips = self.chips;
-        if wrong_length(self.count, places_of(chips), array.len(), security.len()) {
-            return Err(Refusal::WrongLength);
-        }
-        Ok(())
     }
 
     // Checks 10, 5 and 7 of a chip that is named by its number alone.
@@ -99,13 +103,15 @@ impl Bus {
         ensures { result ≡ first_of (chip_checks self array.now security.now chip) }
     {
         self.entry_verdict(array, security)?;
-        if self.count <= chip {
-            return Err(Refusal::WrongValue);
+        if chip < self.count {
+            Ok(())
+        } else {
+            Err(Refusal::WrongValue)
         }
-        Ok(())
     }
 
     // One event. What is refused changes nothing.
+    #[tactic(auto, unfolding(crate::specs::Step::step))]
     pub fn step(self, array: &mut [u8], security: &mut [u8], word: u16) -> Stepped
         ensures { (result, array.new, security.new) ≡ step self array.old security.old word }
     {
@@ -123,34 +129,16 @@ impl Bus {
     ) -> Stepped
         ensures { (result, array.new, security.new) ≡ step_given entry self array.old security.old word }
     {
-        let count = self.count;
-        let started = self.started;
-        let chips = self.chips;
-        let mut values = self.values;
-        let done = given(
-            entry,
-            count,
-            started,
-            chips,
-            &mut values,
-            array,
-            security,
-            word,
-        );
-        let next = done.chips;
-        let answer = done.answer;
-        Stepped {
-            bus: Bus {
-                count,
-                chips: next,
-                values,
-                started: done.started,
-            },
-            answer,
-        }
+        let mut bus = self;
+        let answer = match entry {
+            Ok(()) => event(&mut bus, array, security, word),
+            Err(refusal) => Err(refusal),
+        };
+        Stepped { bus, answer }
     }
 
     // One event after the other, with an answer for each. The state is tested once: every event keeps it well formed.
+    #[tactic(auto, unfolding(crate::specs::Run::run))]
     pub fn run(
         self,
         array: &mut [u8],
@@ -160,22 +148,28 @@ impl Bus {
     ) -> Ran
         ensures { outcome result array.new security.new answers.new ≡ run self array.old security.old events.now answers.old }
     {
-        if answers.len() < events.len() {
-            return Ran {
-                bus: self,
-                verdict: Err(Refusal::ShortBuffer),
-            };
+        let mut bus = self;
+        let verdict = bus.run_verdict(array, security, events.len(), answers.len());
+        if verdict.is_ok() {
+            run_all(&mut bus, array, security, events, answers);
         }
-        let verdict = self.entry_verdict(array, security);
-        match verdict {
-            Err(refusal) => Ran {
-                bus: self,
-                verdict: Err(refusal),
-            },
-            Ok(()) => Ran {
-                bus: run_all(self, array, security, events, answers),
-                verdict: Ok(()),
-            },
+        Ran { bus, verdict }
+    }
+
+    // Check 11, then those at entry.
+    fn run_verdict(
+        self,
+        array: &[u8],
+        security: &[u8],
+        events: usize,
+        answers: usize,
+    ) -> Result<(), Refusal>
+        ensures { result ≡ first_of ((ltb answers events, ShortBuffer) ∷ entry_checks self array.now security.now) }
+    {
+        if answers < events {
+            Err(Refusal::ShortBuffer)
+        } else {
+            self.entry_verdict(array, security)
         }
     }
 }
@@ -191,37 +185,29 @@ fn set_up_verdict(
 {
     board_verdict(count, places)?;
     if wrong_length(count, places, array.len(), security.len()) {
-        return Err(Refusal::WrongLength);
+        Err(Refusal::WrongLength)
+    } else {
+        Ok(())
     }
-    Ok(())
 }
 
 // A fresh chip at each place that the count fills.
 fn fresh_chips(count: usize, places: [Place; PLACES]) -> [Chip; PLACES]
     ensures { result ≡ fresh_chips places (placed count) }
 {
-    let n = placed(count);
     let mut chips = [Chip::fresh(0, 0); PLACES];
-    let mut i: usize = 0;
-    while i < n {
-        let place = places[i];
-        chips[i] = Chip::fresh(place.part, place.strap);
-        i += 1;
+    for i in 0..placed(count) {
+        chips[i] = Chip::fresh(places[i].part, places[i].strap);
     }
     chips
 }
 
 // Checks 6, 7, 12 and 8.
-fn event_verdict(
-    count: usize,
-    started: bool,
-    chips: [Chip; PLACES],
-    word: u16,
-) -> Result<(), Refusal>
-    ensures { result ≡ first_of (event_checks (bus_with count started chips []) word) }
+fn event_verdict(bus: &Bus, word: u16) -> Result<(), Refusal>
+    ensures { result ≡ first_of (event_checks bus.now word) }
 {
-    decode_verdict(count, word)?;
-    line_verdict(addressed_of(started, word), count, chips)
+    decode_verdict(bus.count, word)?;
+    line_verdict(addressed_of(bus.started, word), bus.count, bus.chips)
 }
 
 // Whether a Start is remembered after an event that is done.
@@ -230,118 +216,50 @@ fn remembers(event: Event, started: bool) -> bool
 {
     match event {
         Event::Start => true,
-        Event::Stop => false,
-        Event::Sent(_, _) => false,
-        Event::Read(_) => false,
-        Event::Wp(_) => started,
-        Event::CycleOver => started,
-        Event::PowerUp => false,
+        Event::Wp(_) | Event::CycleOver => started,
+        Event::Stop | Event::Sent(_, _) | Event::Read(_) | Event::PowerUp => false,
     }
 }
 
-// What an event leaves, and its answer. Values and stores are lent, so that they are not copied from function to function.
-#[derive(Clone, Copy)]
-struct Done {
-    chips: [Chip; PLACES],
-    answer: Result<u8, Refusal>,
-    started: bool,
-}
-
-fn played(
-    addressed: Addressed,
-    count: usize,
-    started: bool,
-    chips: [Chip; PLACES],
-    values: &mut [u8; PAGE_MOST],
-    array: &mut [u8],
-    security: &mut [u8],
-) -> Done
-    ensures { (handed count result values.new, array.new, security.new) ≡ played addressed (bus_with count started chips values.old) array.old security.old }
+// One event of a state that passes all its checks, and the reply. The state is lent, so that it is not copied from function to function.
+#[tactic(auto, unfolding(crate::specs::Step::played))]
+fn played(addressed: Addressed, bus: &mut Bus, array: &mut [u8], security: &mut [u8]) -> u8
+    ensures { (answered bus.new (Ok result), array.new, security.new) ≡ played addressed bus.old array.old security.old }
 {
-    let world = line::play(addressed, count, chips, values, array, security);
-    let next = world.chips;
-    let said = world.said;
+    let Played { chips, said } = line::play(
+        addressed,
+        bus.count,
+        bus.chips,
+        &mut bus.values,
+        array,
+        security,
+    );
     let event = event_of(addressed);
-    Done {
-        chips: next,
-        answer: Ok(line_reply(event, said)),
-        started: remembers(event, started),
-    }
+    bus.chips = chips;
+    bus.started = remembers(event, bus.started);
+    line_reply(event, said)
 }
 
 // One event of a state that has passed 10 and 5.
-fn event(
-    count: usize,
-    started: bool,
-    chips: [Chip; PLACES],
-    values: &mut [u8; PAGE_MOST],
-    array: &mut [u8],
-    security: &mut [u8],
-    word: u16,
-) -> Done
-    ensures { (handed count result values.new, array.new, security.new) ≡ event (bus_with count started chips values.old) array.old security.old word }
+#[tactic(auto, unfolding(crate::specs::Step::event))]
+fn event(bus: &mut Bus, array: &mut [u8], security: &mut [u8], word: u16) -> Result<u8, Refusal>
+    ensures { (answered bus.new result, array.new, security.new) ≡ event bus.old array.old security.old word }
 {
-    let verdict = event_verdict(count, started, chips, word);
-    match verdict {
-        Err(refusal) => Done {
-            chips,
-            answer: Err(refusal),
-            started,
-        },
-        Ok(()) => played(
-            addressed_of(started, word),
-            count,
-            started,
-            chips,
-            values,
-            array,
-            security,
-        ),
-    }
-}
-
-// The same, given what the checks at entry say.
-fn given(
-    entry: Result<(), Refusal>,
-    count: usize,
-    started: bool,
-    chips: [Chip; PLACES],
-    values: &mut [u8; PAGE_MOST],
-    array: &mut [u8],
-    security: &mut [u8],
-    word: u16,
-) -> Done
-    ensures { (handed count result values.new, array.new, security.new) ≡ step_given entry (bus_with count started chips values.old) array.old security.old word }
-{
-    match entry {
-        Err(refusal) => Done {
-            chips,
-            answer: Err(refusal),
-            started,
-        },
-        Ok(()) => event(count, started, chips, values, array, security, word),
-    }
+    event_verdict(bus, word)?;
+    Ok(played(addressed_of(bus.started, word), bus, array, security))
 }
 
 fn run_all(
-    bus: Bus,
+    bus: &mut Bus,
     array: &mut [u8],
     security: &mut [u8],
     events: &[u16],
     answers: &mut [u16],
-) -> Bus
+)
     requires { length events.now ≤ length answers.old }
-    ensures { (result, array.new, security.new, answers.new) ≡ run_up_to events.now (length events.now) (bus, array.old, security.old, answers.old) }
+    ensures { (bus.new, array.new, security.new, answers.new) ≡ run_up_to events.now (length events.now) (bus.old, array.old, security.old, answers.old) }
 {
-    let mut next = bus;
-    let mut i: usize = 0;
-    while i < events.len() {
-        let stepped = next.step_given(Ok(()), array, security, events[i]);
-        let answer = stepped.answer;
-        let after = stepped.bus;
-        answers[i] = answer_word(answer);
-        next = after;
-        i += 1;
+    for (i, word) in events.iter().enumerate() {
+        answers[i] = answer_word(event(bus, array, security, *word));
     }
-    next
 }

@@ -37,5 +37,5 @@ pub fn share_address(part: u8, strap: u8, other: u8, beside: u8) -> bool
     let others = codes_of(other) as u16;
     let first = (strap as u16) * codes;
     let second = (beside as u16) * others;
-    base::logic::and(first < second + others, second < first + codes)
+    first < second + others && second < first + codes
 }

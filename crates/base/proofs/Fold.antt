@@ -13,7 +13,7 @@ use lib.ListN.{length, get_or, take}
 use lib.Seq.{take_all, length-take-le}
 use borrow.Author.Tests.{eqb-true, eqb-false}
 use Rattle.std.specs.List.{list_any, list_all, fold, range_with_len, enumerate_from}
-use Rattle.std.proofs.lemmas.List.{get_or-take}
+use Rattle.std.proofs.lemmas.List.{get_or-take, take-take}
 use Rattle.std.proofs.lemmas.List.Folds.{list_any_more, list_all_more}
 use Rattle.std.proofs.lemmas.List.FromFn.{length-range_with_len, get_or-range_with_len, length-enumerate_from, get_or-enumerate_from}
 use Rattle.std.proofs.lemmas.List.Sums.{fold_more}
@@ -249,3 +249,12 @@ module _ {A : Type 0} (test : A → A → Bool) (xs : List A) (d : A) (n : ℕ) 
       all_below-enumerate _ xs d n fits
       ∙ up_same _ (λ (i : ℕ) (ok : Bool). all_below (λ (j : ℕ). test (get_or xs i d) (get_or xs j d)) i && ok) n
       (λ i ok below. ap (λ (each : Bool). each && ok) (all_below-list (test (get_or xs i d)) xs d i (omega arith))) true
+
+  -- where the first n are a slice of their own
+  pub any_pair-slice : list_any (λ (q : ℕ × A). list_any (test q.1) (take q.0 (take n xs))) (enumerate_from 0 (take n xs)) ≡ any_pair (λ (i j : ℕ). test (get_or xs i d) (get_or xs j d)) n
+  any_pair-slice =
+      any_below-enumerate _ xs d n fits
+      ∙ up_same _ (λ (i : ℕ) (found : Bool). any_below (λ (j : ℕ). test (get_or xs i d) (get_or xs j d)) i || found) n
+      (λ i found below.
+          ap (λ (some : Bool). some || found)
+          (ap (list_any (test (get_or xs i d))) (take-take i n xs (omega arith)) ∙ any_below-list (test (get_or xs i d)) xs d i (omega arith))) false

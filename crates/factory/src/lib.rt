@@ -55,6 +55,7 @@ fn put(byte: u8, at: usize, security: &mut [u8])
     }
 }
 
+#[tactic(auto, unfolding(crate::specs::Serial::marked, base::specs::Fold::up_to))]
 fn mark(byte: u8, at: usize, security: &mut [u8])
     requires { at ≤ 2 ^ 32 }
     ensures { security.new ≡ marked byte at security.old }
@@ -82,6 +83,7 @@ fn mark_serial(chip: usize, places: [Place; PLACES], security: &mut [u8])
 }
 
 // Each chip's in its own share; all else stays.
+#[tactic(auto, using(base::proofs::Fold::up_none, base::proofs::Fold::up_more))]
 pub fn mark_serials(count: usize, places: [Place; PLACES], security: &mut [u8])
     ensures { security.new ≡ serials count places security.old }
 {

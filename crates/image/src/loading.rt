@@ -143,12 +143,8 @@ fn load_share(text: &[u8], share: &mut [u8]) -> Result<(), LoadError>
     ensures { (result, share.new) ≡ load_share text.now share.old }
 {
     let reading = scan(text, share.len());
-    if let Err(refusal) = verdict_of(text, reading) {
-        return Err(LoadError {
-            refusal,
-            line: reading.lines + 1,
-        });
-    }
+    let line = reading.lines + 1;
+    verdict_of(text, reading).map_err(|refusal| LoadError { refusal, line })?;
     store_all(text, share);
     Ok(())
 }
@@ -163,8 +159,7 @@ pub fn load(
 ) -> Result<(), LoadError>
     ensures { (result, array.new) ≡ load bus array.old security.now chip text.now }
 {
-    if let Err(refusal) = bus.chip_verdict(array, security, chip) {
-        return Err(LoadError { refusal, line: 0 });
-    }
+    bus.chip_verdict(array, security, chip)
+        .map_err(|refusal| LoadError { refusal, line: 0 })?;
     load_share(text, &mut array[share_of(bus, chip)])
 }

@@ -18,10 +18,8 @@
 --     awaiting an address byte, or the byte after F8h,
 --     counts as taking                                         is_taking: control Phase
 -- Places past the count are not looked at.
-use Rattle.std.specs.Prelude.{ℕ, Bool, ◌&&◌, List, get_or}
+use Rattle.std.specs.Prelude.{ℕ, Bool, ◌&&◌, List}
 use Rattle.base.specs.Fold.{all_below, all_pairs}
-use Rattle.control.specs.declared.Control.{Control}
-use Rattle.control.specs.Control.{fresh}
 use Rattle.chip.specs.declared.Chip.{Chip}
 use Rattle.wellformed.specs.Wellformed.{heeds_start}
 use Rattle.wellformed.specs.Wellformed as chip
@@ -43,13 +41,6 @@ chips_fit count chips = all_below (λ (i : ℕ). chip.well_formed (chip_at chips
 -- no two chips are in each other's way: at most one is active, and while another awaits a byte it waits too
 abbrev pub chips_apart : ℕ → List Chip → Bool
 chips_apart count chips = all_pairs (λ (i j : ℕ). side_by_side (control_at chips i) (control_at chips j)) (placed count)
-
--- two of the chips, and one, by their controls alone
-abbrev pub beside_one : List Control → ℕ → ℕ → Bool
-beside_one controls i j = side_by_side (get_or controls i (fresh 0 0)) (get_or controls j (fresh 0 0))
-
-abbrev pub heeds_one : Bool → List Control → ℕ → Bool
-heeds_one started controls i = heeds_start started (get_or controls i (fresh 0 0)).phase
 
 -- while a Start is remembered every chip takes an address byte or nothing, and only then one awaits it
 abbrev pub chips_heed : ℕ → Bool → List Chip → Bool

@@ -3,7 +3,7 @@
 use Prim.Native.Nat.{ℕ, zero, suc, ◌+◌, ◌-◌, ◌≤◌, ◌<◌}
 use native.Mathlib.Decide.{dec_le}
 use native.Mathlib.Omega.{arith}
-use mathlib.Core.Bool.{Bool, true, false, cond, not, false≢true}
+use mathlib.Core.Bool.{Bool, true, false, cond, not, false≢true, true≢false}
 use mathlib.Core.List.{List, ◌++◌}
 use mathlib.Core.Path.{◌≡◌, ◌∙◌, refl, sym, ap, subst}
 use lib.Dec.{eqb}
@@ -13,6 +13,7 @@ use Rattle.base.specs.Fold.{up_to}
 use Rattle.base.specs.Store.{patched}
 use Rattle.base.proofs.Fold.{up_none, up_keeps, up_more}
 use Rattle.base.proofs.logic.Laws.{and_right, or_none, either}
+use Rattle.refusal.specs.declared.Refusal.{Refusal}
 use Rattle.refusal.specs.Verdict.{Verdict}
 use Rattle.std.specs.Prelude.{Ok, Err}
 use Rattle.refusal.specs.Refusal.{status_of}
@@ -56,6 +57,11 @@ module _ {A : Type 0} (f : A → A) (a : A) where
 passed_framed : (size upper : ℕ) (rest : List ℕ) → first_of (record_checks size upper rest) ≡ Ok tt → is_framed rest ≡ true
 passed_framed size upper rest passes =
     not-false _ (or_none (not (is_framed rest)) (bad_length rest) ((passed_exactly_when (record_checks size upper rest)).0 (ap status_of passes)).0).0
+
+-- what is not done is refused
+pub refused : (verdict : Verdict) → is_ok verdict ≡ false → (refusal : Refusal) × (verdict ≡ Err refusal)
+refused (Ok tt) is = absurd (true≢false is)
+refused (Err refusal) is = (refusal, refl)
 
 -- past a record that passes a reading goes on unless that was the end, and nothing is said against it
 pub open_by : (end : Bool) → is_open (cond end Ended Open) ≡ not end

@@ -70,6 +70,7 @@ impl Test {
 }
 
 // The chip of which it holds, if there is one. Of partners, and of chips with an address, a well-formed line has one at most.
+#[tactic(auto, unfolding(base::specs::Fold::up_to, crate::specs::Chips::who), using(crate::proofs::Placed::of_loop))]
 pub fn who(test: Test, count: usize, chips: [Chip; PLACES]) -> Option<usize>
     ensures { result ≡ who test count chips }
 {
@@ -83,6 +84,7 @@ pub fn who(test: Test, count: usize, chips: [Chip; PLACES]) -> Option<usize>
 }
 
 // All of which it holds.
+#[tactic(auto, unfolding(base::specs::Fold::up_to, crate::specs::Chips::which), using(crate::proofs::Placed::of_loop))]
 pub fn which(test: Test, count: usize, chips: [Chip; PLACES]) -> [bool; PLACES]
     ensures { result ≡ which test count chips }
 {

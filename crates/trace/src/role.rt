@@ -1,6 +1,6 @@
 // What an event is for the chips that it meets (paper, "Events and replies"), and which chip it is for.
 ghost use Rattle.std.specs.Prelude.{◌≡◌};
-ghost use Rattle.trace.specs.Role.{address_role, choice_role, byte_act, read_act, sent_role, role_of};
+ghost use Rattle.trace.specs.Role.{role_as, address_role, choice_role, byte_act, read_act, role_of};
 
 use crate::chips::{Test, chip_at, is_array_byte, who};
 use crate::dropped::{Dropped, dropped_of};
@@ -49,37 +49,32 @@ const F8: u8 = 0xF8;
 
 const F9: u8 = 0xF9;
 
+impl Role {
+    fn new(chip: Option<usize>, act: Act) -> Role
+        ensures { result ≡ role_as chip act }
+    {
+        Role { chip, act }
+    }
+}
+
 // The first byte after a Start.
 fn address_role(byte: u8, count: usize, chips: [Chip; PLACES]) -> Role
     ensures { result ≡ address_role byte count chips }
 {
     match byte {
-        F8 => Role {
-            chip: None,
-            act: Act::HostF8,
-        },
-        F9 => Role {
-            chip: who(Test::Chosen, count, chips),
-            act: Act::HostF9,
-        },
-        _ => Role {
-            chip: who(Test::HasAddress(byte), count, chips),
-            act: Act::Address,
-        },
+        F8 => Role::new(None, Act::HostF8),
+        F9 => Role::new(who(Test::Chosen, count, chips), Act::HostF9),
+        _ => Role::new(who(Test::HasAddress(byte), count, chips), Act::Address),
     }
 }
 
 fn choice_role(byte: u8, count: usize, chips: [Chip; PLACES]) -> Role
     ensures { result ≡ choice_role byte count chips }
 {
-    let chip = if is_array_byte(byte) {
-        who(Test::HasAddress(byte), count, chips)
+    if is_array_byte(byte) {
+        Role::new(who(Test::HasAddress(byte), count, chips), Act::Choice)
     } else {
-        None
-    };
-    Role {
-        chip,
-        act: Act::Choice,
+        Role::new(None, Act::Choice)
     }
 }
 
@@ -105,30 +100,7 @@ fn read_act(phase: Phase) -> Act
     }
 }
 
-// Who awaits a byte that is not the first after a Start awaits the one after F8h.
-fn sent_role(
-    first: bool,
-    byte: u8,
-    partner: Option<usize>,
-    phase: Phase,
-    count: usize,
-    chips: [Chip; PLACES],
-) -> Role
-    ensures { result ≡ sent_role first byte partner phase count chips }
-{
-    if first {
-        address_role(byte, count, chips)
-    } else if who(Test::Awaits, count, chips).is_some() {
-        choice_role(byte, count, chips)
-    } else {
-        Role {
-            chip: partner,
-            act: byte_act(phase),
-        }
-    }
-}
-
-// `named` is the chip that events 05 to 07 name.
+// `named` is the chip that events 05 to 07 name. Who awaits a byte that is not the first after a Start awaits the one after F8h.
 #[tactic(auto, unfolding(crate::specs::Role::role_of))]
 pub fn role_of(event: Event, named: usize, count: usize, chips: [Chip; PLACES]) -> Role
     ensures { result ≡ role_of event named count chips }
@@ -136,14 +108,17 @@ pub fn role_of(event: Event, named: usize, count: usize, chips: [Chip; PLACES]) 
     let partner = who(Test::Partner, count, chips);
     let met = chip_at(chips, partner);
     let phase = met.control.phase;
-    let (chip, act) = match event {
-        Event::Start => (partner, Act::Start(dropped_of(met))),
-        Event::Stop => (partner, Act::Stop(ending_of(met))),
-        Event::Sent(first, byte) => return sent_role(first, byte, partner, phase, count, chips),
-        Event::Read(_) => (partner, read_act(phase)),
-        Event::Wp(level) => (Some(named), Act::Wp(level)),
-        Event::CycleOver => (Some(named), Act::CycleOver),
-        Event::PowerUp => (partner, Act::PowerUp(dropped_of(met))),
-    };
-    Role { chip, act }
+    match event {
+        Event::Start => Role::new(partner, Act::Start(dropped_of(met))),
+        Event::Stop => Role::new(partner, Act::Stop(ending_of(met))),
+        Event::Sent(true, byte) => address_role(byte, count, chips),
+        Event::Sent(false, byte) if who(Test::Awaits, count, chips).is_some() => choice_role(
+            byte, count, chips,
+        ),
+        Event::Sent(false, _) => Role::new(partner, byte_act(phase)),
+        Event::Read(_) => Role::new(partner, read_act(phase)),
+        Event::Wp(level) => Role::new(Some(named), Act::Wp(level)),
+        Event::CycleOver => Role::new(Some(named), Act::CycleOver),
+        Event::PowerUp => Role::new(partner, Act::PowerUp(dropped_of(met))),
+    }
 }

@@ -130,11 +130,22 @@ impl Bus {
         ensures { (result, array.new, security.new) ≡ step_given entry self array.old security.old word }
     {
         let mut bus = self;
-        let answer = match entry {
-            Ok(()) => event(&mut bus, array, security, word),
-            Err(refusal) => Err(refusal),
-        };
+        let answer = bus.step_lent(entry, array, security, word);
         Stepped { bus, answer }
+    }
+
+    // The same of a state that is lent, so that it is not copied.
+    pub fn step_lent(
+        &mut self,
+        entry: Result<(), Refusal>,
+        array: &mut [u8],
+        security: &mut [u8],
+        word: u16,
+    ) -> Result<u8, Refusal>
+        ensures { (answered self.new result, array.new, security.new) ≡ step_given entry self.old array.old security.old word }
+    {
+        entry?;
+        event(self, array, security, word)
     }
 
     // One event after the other, with an answer for each. The state is tested once: every event keeps it well formed.

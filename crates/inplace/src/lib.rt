@@ -1,4 +1,4 @@
-// The bus state lent to a step and moved on where it stands (paper, "The transcript"): one thin wrapper over the step by value.
+// The bus state lent to a step and moved on where it stands (paper, "The transcript"): one thin wrapper over the step of a bus.
 #![tactic(auto)]
 
 ghost use Rattle.inplace.specs.InPlace.{StepsInPlace};
@@ -16,7 +16,5 @@ pub fn step_in_place(
 ) -> Result<u8, Refusal>
     ensures { StepsInPlace bus.old entry array.old security.old word result bus.new array.new security.new }
 {
-    let stepped = (*bus).step_given(entry, array, security, word);
-    *bus = stepped.bus;
-    stepped.answer
+    bus.step_lent(entry, array, security, word)
 }

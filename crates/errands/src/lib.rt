@@ -77,6 +77,7 @@ fn failed(rt: &HostRuntime, name: &[u8], error: Error) -> Undone {
 
 // A board with its memories, and room for a file: what the errands are run on.
 // Each field that is lent to be written has a lifetime of its own, so that the borrow checker lends it beside the others.
+#[derive(Drop)]
 pub struct Errands<'a, 'm, 't> {
     pub rt: &'a HostRuntime,
     pub bus: Bus,

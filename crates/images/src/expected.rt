@@ -45,9 +45,10 @@ fn value_of(digit: u8) -> u8 {
 }
 
 fn number_in(digits: &[u8]) -> usize {
-    digits
-        .iter()
-        .fold(0, |number, digit| number % MOST * TEN + value_of(*digit) as usize)
+    digits.iter().fold(
+        0,
+        |number, digit| number % MOST * TEN + value_of(*digit) as usize,
+    )
 }
 
 // Nothing is expected of a word of another form.

@@ -53,6 +53,7 @@ fn read_text(rt: &HostRuntime, path: &[u8], into: &mut [u8]) -> Option<usize>
 }
 
 // A word's file, and what is told of it.
+#[derive(Clone, Copy)]
 struct Recorded<'a> {
     rt: &'a HostRuntime,
     name: &'a [u8],
@@ -101,7 +102,14 @@ impl Recorded<'_> {
     }
 
     // Saves into a buffer that has just room for the text, and into one that is a byte shorter.
-    fn saves_as(&self, bus: Bus, array: &[u8], security: &[u8], whole: &[u8], text: &mut [u8]) -> bool {
+    fn saves_as(
+        &self,
+        bus: Bus,
+        array: &[u8],
+        security: &[u8],
+        whole: &[u8],
+        text: &mut [u8],
+    ) -> bool {
         let size = whole.len().min(text.len());
         let saved = save(bus, array, security, CHIP, &mut text[..size]);
         if !self.is_same(b": text, number: ", 0, number_of(saved)) {
@@ -116,7 +124,14 @@ impl Recorded<'_> {
     }
 
     // Whether what was loaded is saved as recorded.
-    fn saves(&self, bus: Bus, array: &[u8], security: &[u8], whole: &mut [u8], text: &mut [u8]) -> bool {
+    fn saves(
+        &self,
+        bus: Bus,
+        array: &[u8],
+        security: &[u8],
+        whole: &mut [u8],
+        text: &mut [u8],
+    ) -> bool {
         let mut room = [0u8; PATH];
         let Some(path) = with_ending(self.name, b".want", &mut room) else {
             self.tell(b": missing, or too long\n");
@@ -131,7 +146,14 @@ impl Recorded<'_> {
     }
 
     // Whether a file is answered as expected, and does to the array what it should.
-    fn loads(&self, bus: Bus, array: &mut [u8], security: &[u8], text: &mut [u8], spare: &mut [u8]) -> bool {
+    fn loads(
+        &self,
+        bus: Bus,
+        array: &mut [u8],
+        security: &[u8],
+        text: &mut [u8],
+        spare: &mut [u8],
+    ) -> bool {
         let Some(size) = read_text(self.rt, self.name, text) else {
             return false;
         };
@@ -152,7 +174,13 @@ impl Recorded<'_> {
     }
 
     // On a fresh bus, in memories of the board's size.
-    fn plays(&self, array: &mut [u8], security: &mut [u8], text: &mut [u8], spare: &mut [u8]) -> bool {
+    fn plays(
+        &self,
+        array: &mut [u8],
+        security: &mut [u8],
+        text: &mut [u8],
+        spare: &mut [u8],
+    ) -> bool {
         let board = board_of(self.expected.part);
         let array_end = board.array_end(array.len());
         let security_end = board.security_end(security.len());

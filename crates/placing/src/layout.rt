@@ -6,7 +6,7 @@ use board::shares::{array_start, security_start};
 use board::{PLACES, Place};
 use parts::part::Part24CS32;
 
-#[derive(Clone, Copy)]
+#[derive(Clone, Copy, Debug, PartialEq, Eq)]
 pub struct Board {
     pub count: usize,
     pub places: [Place; PLACES],

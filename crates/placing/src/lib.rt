@@ -9,9 +9,6 @@ ghost use Rattle.placing.specs.Placing.{is_place, place_of, place_named};
 use board::Place;
 use transcript::digit::digit_value;
 
-// A digit, the colon, a digit.
-pub const NAME: usize = 3;
-
 const COLON: u8 = b':';
 
 fn place_of(part: u8, colon: u8, strap: u8) -> Option<Place>
@@ -25,7 +22,7 @@ fn place_of(part: u8, colon: u8, strap: u8) -> Option<Place>
     Some(Place { part, strap })
 }
 
-// The place that a word names, if it names one.
+// The place that a word names: a digit, the colon, a digit.
 pub fn place_named(word: &[u8]) -> Option<Place>
     ensures { result ≡ place_named word.now }
 {

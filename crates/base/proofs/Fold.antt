@@ -256,5 +256,5 @@ module _ {A : Type 0} (test : A → A → Bool) (xs : List A) (d : A) (n : ℕ) 
       any_below-enumerate _ xs d n fits
       ∙ up_same _ (λ (i : ℕ) (found : Bool). any_below (λ (j : ℕ). test (get_or xs i d) (get_or xs j d)) i || found) n
       (λ i found below.
-          ap (λ (some : Bool). some || found)
-          (ap (list_any (test (get_or xs i d))) (take-take i n xs (omega arith)) ∙ any_below-list (test (get_or xs i d)) xs d i (omega arith))) false
+      ap (λ (some : Bool). some || found)
+      (ap (list_any (test (get_or xs i d))) (take-take i n xs (omega arith)) ∙ any_below-list (test (get_or xs i d)) xs d i (omega arith))) false

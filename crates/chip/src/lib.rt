@@ -12,13 +12,13 @@ use control::phase::{Phase, is_busy};
 use control::{Answered, Control, Said};
 use load::{PAGE_MOST, Span};
 
-#[derive(Clone, Copy)]
+#[derive(Clone, Copy, Debug, PartialEq, Eq)]
 pub struct Chip {
     pub control: Control,
     pub span: Span,
 }
 
-#[derive(Clone, Copy)]
+#[derive(Clone, Copy, Debug, PartialEq, Eq)]
 pub struct Stepped {
     pub chip: Chip,
     pub said: Said,

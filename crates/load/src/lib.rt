@@ -57,30 +57,26 @@ impl Span {
         }
     }
 
-    // Where a place is met going on from the first.
-    fn met_at(self, page: u32, place: u32) -> u32
-        requires page_bound { page ≤ 256 }
-        requires place_bound { place < 256 }
+    // Where a place is met going on from the first. In 64 bits no sum wraps.
+    fn met_at(self, page: u32, place: u32) -> u64
         ensures { result ≡ met_at page self place }
     {
         if place < u32::from(self.first) {
-            place + page
+            u64::from(place) + u64::from(page)
         } else {
-            place
+            u64::from(place)
         }
     }
 
     // Where the place after the last is met.
-    fn end(self) -> u32
+    fn end(self) -> u64
         ensures { result ≡ end self }
     {
-        u32::from(self.first) + u32::from(self.count)
+        u64::from(self.first) + u64::from(self.count)
     }
 
     // Whether a place is one of the loaded ones.
     fn covers(self, page: u32, place: u32) -> bool
-        requires page_bound { page ≤ 256 }
-        requires place_bound { place < 256 }
         ensures { result ≡ covers page self place }
     {
         self.met_at(page, place) < self.end()

@@ -42,7 +42,8 @@ fn take_data(kind: Data, c: Control, byte: u8) -> Answered
     match kind {
         Data::ToArray => {
             let next = next_in_page(c.part, c.arraycounter);
-            c.arraycounter_at(next).acked(Phase::TakesData(Data::ToArray))
+            c.arraycounter_at(next)
+                .acked(Phase::TakesData(Data::ToArray))
         }
         Data::ToSecurity => {
             let next = next_in_page(c.part, c.securitycounter);

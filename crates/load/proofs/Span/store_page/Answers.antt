@@ -1,21 +1,14 @@
 -- The share so far is the definition's after so many places; the page ends at 2 ^ 32 or below, so no address wraps.
-use Rattle.std.proofs.Common.{◌≡◌, ◌+◌, ◌*◌, ◌≤◌, ◌^◌, sym, ◌∙◌, arith}
+use Rattle.std.proofs.Common.{get_or, ◌≡◌, ◌+◌, ◌*◌, ◌≤◌, ◌^◌, arith}
 use Rattle.std.proofs.lemmas.List.{set_past}
 use Rattle.base.proofs.Fold.{up_none, up_more, up_end}
 use Rattle.parts.proofs.part.Laws.{sound_is}
 use Rattle.regions.proofs.page.Laws.{page_ends}
 use Rattle.load.specs.Load.{store_page}
-use Rattle.load.proofs.Span.store_page.Goals.{then-covers+then-to-share, else-covers, else-covers-via-then-covers+else-to-share, else-covers-via-else-covers}
 use Rattle.load.proofs.Span.store_page.Goals as goal
 
 pub loop-place-init : goal.loop-place-init
 loop-place-init c = up_none _ _
-
-pub covers-requires-clause-page_bound : goal.covers-requires-clause-page_bound
-covers-requires-clause-page_bound c = (sound_is _ c.geometry_of-size.ensures).page_most
-
-pub covers-requires-clause-place_bound : goal.covers-requires-clause-place_bound
-covers-requires-clause-place_bound c = omega (arith, (sound_is _ c.geometry_of-size.ensures).page_most)
 
 pub overflow_add-to : goal.overflow_add-to
 overflow_add-to c =
@@ -29,14 +22,10 @@ bounds-values-place c = omega (arith, (sound_is _ c.geometry_of-size.ensures).pa
 
 pub loop-place-preserved : goal.loop-place-preserved
 loop-place-preserved c =
-    up_more _ _ _ c.loop-place.invariant
-    (elim c.if-covers.branch [
-      | then-covers+then-to-share w ↦ rw (← c.covers.ensures, w.if-covers.true) w.share-is
-      | else-covers w ↦ elim w.else-covers.branch [
-        | else-covers-via-then-covers+else-to-share v ↦ rw (← c.covers.ensures, v.if-covers.true) (w.share-is ∙ sym (set_past _ _ _ v.if-to-share.false))
-        | else-covers-via-else-covers v ↦ rw (← c.covers.ensures, v.if-covers.false) w.share-is
-      ]
-    ])
+    -- past the share there is nothing to store to
+    let to = c.page_of.result * c.geometry_of-size.result.page + c.loop-place.place in
+    let past = set_past c.loop-place.share to (get_or c.args.values.now c.loop-place.place 0) in
+    up_more _ _ _ c.loop-place.invariant (grind (arith, past))
 
 pub returns : goal.returns
 unfolding store_page

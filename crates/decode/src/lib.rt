@@ -28,7 +28,7 @@ enum Kind {
 const NACK: u8 = 1;
 
 // An event for every chip, or for the chip named.
-#[derive(Clone, Copy)]
+#[derive(Clone, Copy, Debug, PartialEq, Eq)]
 pub enum Addressed {
     ToAll(Event),
     ToOne(u8, Event),

@@ -11,13 +11,13 @@ use chip::event::Event;
 use control::phase::{Data, Phase, Source, Word};
 
 // What the event is, and the number of the chip that it is for, if there is one.
-#[derive(Clone, Copy)]
+#[derive(Clone, Copy, Debug, PartialEq, Eq)]
 pub struct Role {
     pub chip: Option<usize>,
     pub act: Act,
 }
 
-#[derive(Clone, Copy)]
+#[derive(Clone, Copy, Debug, PartialEq, Eq)]
 pub enum Act {
     // It breaks off what the host's partner was at.
     Start(Dropped),
@@ -108,13 +108,12 @@ pub fn role_of(event: Event, named: usize, count: usize, chips: [Chip; PLACES]) 
     let partner = who(Test::Partner, count, chips);
     let met = chip_at(chips, partner);
     let phase = met.control.phase;
+    let is_awaited = who(Test::Awaits, count, chips).is_some();
     match event {
         Event::Start => Role::new(partner, Act::Start(dropped_of(met))),
         Event::Stop => Role::new(partner, Act::Stop(ending_of(met))),
         Event::Sent(true, byte) => address_role(byte, count, chips),
-        Event::Sent(false, byte) if who(Test::Awaits, count, chips).is_some() => choice_role(
-            byte, count, chips,
-        ),
+        Event::Sent(false, byte) if is_awaited => choice_role(byte, count, chips),
         Event::Sent(false, _) => Role::new(partner, byte_act(phase)),
         Event::Read(_) => Role::new(partner, read_act(phase)),
         Event::Wp(level) => Role::new(Some(named), Act::Wp(level)),

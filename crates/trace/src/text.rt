@@ -1,6 +1,5 @@
 // The words of a line, as they are written.
-ghost use Rattle.std.specs.Prelude.{◌≡◌, ◌≤◌, ◌<◌, ℕ, slice_index};
-ghost use Rattle.transcript.specs.Frame.{lf};
+ghost use Rattle.trace.specs.Plain.{Plain};
 
 use crate::WORDS;
 use std::fmt;
@@ -11,13 +10,10 @@ use transcript::frame::LF;
 pub struct Words {
     room: [u8; WORDS],
     size: usize,
-    ghost there: { size ≤ 160 },
-    ghost no_lf: { (i : ℕ) → i < size → slice_index room i ≡ lf → ⊥ },
+    ghost plain: { Plain size room },
 }
 
 impl Words {
-    ghost use Rattle.trace.specs.Plain.{Plain};
-
     pub fn new() -> Words {
         Words {
             room: [0; WORDS],

@@ -121,6 +121,7 @@ impl Span {
         let first = page_of(part, at) * size;
         for place in 0..size {
             let to = (first + place) as usize;
+            // no `get_mut`: of the bytes that it lends a proof then knows nothing (tried: `share.new` stays open)
             if self.covers(size, place) && to < share.len() {
                 share[to] = values[place as usize];
             }

@@ -22,7 +22,7 @@ use refusal::{Refusal, answer_word};
 
 // `started`: a Start is remembered, so that the next byte sent is an address byte, whoever is busy (request E8). It stands last, so that the chips
 // lie where copying them is cheap.
-#[derive(Clone, Copy)]
+#[derive(Clone, Copy, Debug, PartialEq, Eq)]
 pub struct Bus {
     pub count: usize,
     pub chips: [Chip; PLACES],
@@ -30,13 +30,13 @@ pub struct Bus {
     pub started: bool,
 }
 
-#[derive(Clone, Copy)]
+#[derive(Clone, Copy, Debug, PartialEq, Eq)]
 pub struct Stepped {
     pub bus: Bus,
     pub answer: Result<u8, Refusal>,
 }
 
-#[derive(Clone, Copy)]
+#[derive(Clone, Copy, Debug, PartialEq, Eq)]
 pub struct Ran {
     pub bus: Bus,
     pub verdict: Result<(), Refusal>,

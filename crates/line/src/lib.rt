@@ -32,7 +32,7 @@ const ACKNOWLEDGE: u8 = 0x01;
 
 const OCCUPIED: u8 = 0x02;
 
-#[derive(Clone, Copy)]
+#[derive(Clone, Copy, Debug, PartialEq, Eq)]
 pub struct Played {
     pub chips: [Chip; PLACES],
     pub said: Said,

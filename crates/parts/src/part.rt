@@ -102,7 +102,8 @@ pub struct Geometry {
     pub identifies: bool,
 }
 
-// A part's figures, out of its constants.
+// A part's figures, out of its constants. No trait: a clause names a trait's constant only by a ghost member beside it, so that each figure of each
+// part would stand twice.
 macro_rules! figures {
     ($part:ident) => {
         Geometry {

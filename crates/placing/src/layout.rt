@@ -57,7 +57,11 @@ impl Board {
     pub fn or_paper(self) -> Self
         ensures { result ≡ or_paper self }
     {
-        if self.count == 0 { Self::of_paper() } else { self }
+        if self.count == 0 {
+            Self::of_paper()
+        } else {
+            self
+        }
     }
 
     // Where its arrays end in a memory of some length: no later than the memory does.

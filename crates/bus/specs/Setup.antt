@@ -1,5 +1,5 @@
 -- Setting up a bus (paper, "The two memories" and "Events and replies"): checks 1, 2, 3, 4, 5 in that order over all chips.
-use Rattle.std.specs.Prelude.{ℕ, Bool, false, List, [], ◌∷◌, ◌++◌, length, replicate, set, Result, Ok, Err}
+use Rattle.std.specs.Prelude.{ℕ, Bool, false, List, [], ◌∷◌, ◌++◌, length, replicate, set}
 use Rattle.base.specs.Fold.{up_to}
 use Rattle.load.specs.Load.{no_values}
 use Rattle.chip.specs.declared.Chip.{Chip}
@@ -7,12 +7,14 @@ use Rattle.chip.specs.Chip as chip
 use Rattle.refusal.specs.declared.Refusal.{Refusal}
 use Rattle.refusal.specs.declared.Refusal.TheVariants.{WrongLength}
 use Rattle.refusal.specs.Verdict.{Verdict}
+use Rattle.std.specs.Prelude.{Ok, Err}
 use Rattle.refusal.specs.Checks.{first_of}
 use Rattle.board.specs.declared.Place.{Place}
 use Rattle.board.specs.Place.{place_at, placed}
 use Rattle.board.specs.Board.{board_checks}
 use Rattle.board.specs.Shares.{wrong_length}
 use Rattle.bus.specs.declared.Bus.{Bus}
+use Rattle.bus.specs.declared.SetUp.{SetUp}
 
 abbrev pub set_up_checks : ℕ → List Place → List ℕ → List ℕ → List (Bool × Refusal)
 set_up_checks count places array security =
@@ -34,10 +36,10 @@ fresh_chips places n =
 abbrev pub fresh_bus : ℕ → List Place → Bus
 fresh_bus count places = record { count = count; started = false; chips = fresh_chips places (placed count); values = no_values }
 
--- the state, or why there is none
-abbrev pub set_up_by : Verdict → ℕ → List Place → Result Bus Refusal
-set_up_by (Ok tt) count places = Ok (fresh_bus count places)
-set_up_by (Err refusal) count places = Err refusal
+-- a refused set-up returns the empty state beside its refusal
+abbrev pub set_up_by : Verdict → ℕ → List Place → SetUp
+set_up_by (Ok tt) count places = record { bus = fresh_bus count places; verdict = Ok tt }
+set_up_by (Err refusal) count places = record { bus = empty; verdict = Err refusal }
 
-unfoldable pub set_up : ℕ → List Place → List ℕ → List ℕ → Result Bus Refusal
+unfoldable pub set_up : ℕ → List Place → List ℕ → List ℕ → SetUp
 set_up count places array security = set_up_by (first_of (set_up_checks count places array security)) count places

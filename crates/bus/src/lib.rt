@@ -30,6 +30,14 @@ pub struct Bus {
     pub started: bool,
 }
 
+// Struct and verdict, and no `Result`: a refused set-up returns an empty state, and a refused step or run the state that it was given (paper, "Events
+// and replies"; `refused_set_up_is_empty`).
+#[derive(Clone, Copy, Debug, PartialEq, Eq)]
+pub struct SetUp {
+    pub bus: Bus,
+    pub verdict: Result<(), Refusal>,
+}
+
 #[derive(Clone, Copy, Debug, PartialEq, Eq)]
 pub struct Stepped {
     pub bus: Bus,
@@ -62,16 +70,19 @@ impl Bus {
         places: [Place; PLACES],
         array: &[u8],
         security: &[u8],
-    ) -> Result<Bus, Refusal>
+    ) -> SetUp
         ensures { result ≡ set_up count places array.now security.now }
     {
-        set_up_verdict(count, places, array, security)?;
-        let chips = fresh_chips(count, places);
-        Ok(Bus {
-            count,
-            chips,
-            ..Bus::empty()
-        })
+        let verdict = set_up_verdict(count, places, array, security);
+        let bus = match verdict {
+            Ok(()) => Bus {
+                count,
+                chips: fresh_chips(count, places),
+                ..Bus::empty()
+            },
+            Err(_) => Bus::empty(),
+        };
+        SetUp { bus, verdict }
     }
 
     pub fn well_formed(self) -> bool

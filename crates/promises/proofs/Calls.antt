@@ -10,8 +10,7 @@ use Rattle.base.specs.Every.{AllBytes}
 use Rattle.base.proofs.Call.{Call}
 use Rattle.chip.specs.declared.Stepped as chip
 use Rattle.refusal.specs.Verdict.{Verdict}
-use Rattle.std.specs.Prelude.{Result, Ok}
-use Rattle.refusal.specs.declared.Refusal.{Refusal}
+use Rattle.std.specs.Prelude.{Ok}
 use Rattle.refusal.specs.Refusal.{status_in}
 use Rattle.refusal.specs.Checks.{first_of}
 use Rattle.refusal.proofs.Checks.{Given, status_passed}
@@ -20,7 +19,6 @@ use Rattle.lineup.specs.Chips.{chip_at, places_of}
 use Rattle.line.specs.Line.{array_share, security_share}
 use Rattle.decode.specs.Decode.{addressed_of}
 use Rattle.bus.specs.Step.{entry_checks, step_checks, step}
-use Rattle.bus.specs.declared.Bus.{Bus}
 use Rattle.bus.specs.Run.{Progress, run}
 use Rattle.bus.proofs.Typed.{OfItsType}
 use Rattle.bus.proofs.Bus.set_up.Kinds as set_up_kinds
@@ -46,11 +44,9 @@ StepCall = Call step_kinds.ps step_kinds.r step_reads.Post
 abbrev pub RunCall : Type 0
 RunCall = Call run_kinds.ps run_kinds.r run_reads.Post
 
--- a bus that a set-up hands back is a value of its type
-pub set_up_typed : (call : SetUpCall) (bus : Bus) → call.result ≡ Ok bus → OfItsType bus
-set_up_typed call bus is =
-    let ok = subst (λ (up : Result Bus Refusal). (set_up_kinds.r).is.Ok call.lifetimes up) is call.ok in
-    record { values = _; is = ok.1.1.1.1.0 }
+-- whatever set-up says, its bus is a value of its type
+pub set_up_typed : (call : SetUpCall) → OfItsType call.result.bus
+set_up_typed call = record { values = _; is = call.ok.1.1.0 }
 
 -- ---- a step
 module _ (call : StepCall) where

@@ -26,7 +26,6 @@ use Rattle.board.specs.declared.Place.{Place}
 use Rattle.board.specs.Place.{nowhere}
 use Rattle.board.specs.Shares.{array_start, security_start}
 use Rattle.bus.specs.Setup.{set_up}
-use Rattle.promises.specs.SetUp.{verdict_of}
 use Rattle.promises.specs.ChipPlayed.{chip_played}
 
 abbrev m01 : ℕ
@@ -85,7 +84,7 @@ abbrev place : ℕ → ℕ → Place
 place part strap = record { part = part; strap = strap }
 
 abbrev set_up_of : Place → Place → ℕ
-set_up_of one two = status_of (verdict_of (set_up 2 (one ∷ two ∷ nowhere ∷ nowhere ∷ []) (replicate 135168 0xFF) (replicate 576 0xFF)))
+set_up_of one two = status_of (set_up 2 (one ∷ two ∷ nowhere ∷ nowhere ∷ []) (replicate 135168 0xFF) (replicate 576 0xFF)).verdict
 
 -- three 24CS32
 abbrev three : List Place

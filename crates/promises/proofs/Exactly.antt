@@ -15,25 +15,24 @@ use Rattle.bus.specs.Setup.{set_up_checks, set_up_by, set_up}
 use Rattle.bus.specs.Step.{step_checks, played, step_by, step}
 use Rattle.bus.specs.Run.{run_checks, run_by, run}
 use Rattle.bus.proofs.Entry.{step_by_checks}
-use Rattle.promises.specs.SetUp.{verdict_of}
 
 module _ (count : ℕ) (places : List Place) (array security : List ℕ) where
   abbrev at_set_up : Checks
   at_set_up = set_up_checks count places array security
 
-  set_up_says : status_of (verdict_of (set_up count places array security)) ≡ status_of (first_of at_set_up)
+  set_up_says : status_of (set_up count places array security).verdict ≡ status_of (first_of at_set_up)
   unfolding set_up
   set_up_says = go (first_of at_set_up)
     where
-      go : (verdict : Verdict) → status_of (verdict_of (set_up_by verdict count places)) ≡ status_of verdict
+      go : (verdict : Verdict) → status_of (set_up_by verdict count places).verdict ≡ status_of verdict
       go (Ok tt) = refl
       go (Err refusal) = refl
 
   pub set_up_exactly_when : (n : ℕ) → 0 < n
-      → (status_of (verdict_of (set_up count places array security)) ≡ n) ↔ Given (set_up_checks count places array security) n
+      → (status_of (set_up count places array security).verdict ≡ n) ↔ Given (set_up_checks count places array security) n
   set_up_exactly_when n some = rw set_up_says (given_exactly_when at_set_up refl n some)
 
-  pub set_up_passes_exactly_when : (status_of (verdict_of (set_up count places array security)) ≡ 0) ↔ NoneHolds (set_up_checks count places array security)
+  pub set_up_passes_exactly_when : (status_of (set_up count places array security).verdict ≡ 0) ↔ NoneHolds (set_up_checks count places array security)
   set_up_passes_exactly_when = rw set_up_says (passed_exactly_when at_set_up)
 
 module _ (bus : Bus) (array security : List ℕ) (word : ℕ) where

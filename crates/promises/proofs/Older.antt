@@ -10,7 +10,6 @@ use Rattle.board.specs.declared.Place.{Place}
 use Rattle.board.specs.Place.{nowhere}
 use Rattle.board.specs.Shares.{array_start, security_start}
 use Rattle.bus.specs.Setup.{set_up}
-use Rattle.promises.specs.SetUp.{verdict_of}
 
 -- the parts by their numbers: 24CSM01, 24CS32, AT24CM01, and a number that is none
 abbrev place : ℕ → ℕ → Place
@@ -21,7 +20,7 @@ two one other = one ∷ other ∷ nowhere ∷ nowhere ∷ []
 
 -- what set-up answers, with stores of these lengths
 abbrev set_up_with : ℕ → ℕ → Place → Place → ℕ
-set_up_with array security one other = status_of (verdict_of (set_up 2 (two one other) (replicate array 0xFF) (replicate security 0xFF)))
+set_up_with array security one other = status_of (set_up 2 (two one other) (replicate array 0xFF) (replicate security 0xFF)).verdict
 
 -- 3:0 beside 1:0 is 4, beside 1:1 accepted; beside a 24CS32 at straps 0 and 1 it is 4, at strap 2 accepted; strap 3 is the last, and part 4 is none.
 -- A board 3:0 2:4 needs 135,168 and 64 bytes

@@ -15,19 +15,18 @@ use Rattle.bus.specs.Setup.{set_up_checks, empty, set_up_by, set_up}
 use Rattle.bus.specs.Step.{step_checks, refused, played, step_by, step}
 use Rattle.bus.specs.Run.{run_checks, Progress, run_by, run}
 use Rattle.bus.proofs.Entry.{step_by_checks}
-use Rattle.promises.specs.SetUp.{verdict_of, state_of}
 
 abbrev is_done : Answer → Bool
 is_done (Ok reply) = true
 is_done (Err refusal) = false
 
 pub refused_set_up_is_empty : (count : ℕ) (places : List Place) (array security : List ℕ) (refusal : Refusal)
-    → verdict_of (set_up count places array security) ≡ Err refusal
-    → state_of (set_up count places array security) ≡ empty
+    → (set_up count places array security).verdict ≡ Err refusal
+    → (set_up count places array security).bus ≡ empty
 unfolding set_up
 refused_set_up_is_empty count places array security refusal = go (first_of (set_up_checks count places array security))
   where
-    go : (verdict : Verdict) → verdict_of (set_up_by verdict count places) ≡ Err refusal → state_of (set_up_by verdict count places) ≡ empty
+    go : (verdict : Verdict) → (set_up_by verdict count places).verdict ≡ Err refusal → (set_up_by verdict count places).bus ≡ empty
     go (Ok tt) is = absurd (true≢false (ap is_ok is))
     go (Err other) is = refl
 

@@ -33,7 +33,6 @@ use Rattle.lineup.specs.Wellformed.{well_formed}
 use Rattle.bus.specs.Setup.{set_up_checks, empty_chip, empty, fresh_chips, fresh_bus, set_up_by, set_up}
 use Rattle.bus.specs.Step.{entry_checks}
 use Rattle.lineup.proofs.Filled.{filled_at}
-use Rattle.promises.specs.SetUp.{verdict_of, state_of}
 use Rattle.promises.proofs.Formed.{none_holds, Formed, of_formed, right_lengths, EntryHolds, of_entry}
 
 -- two boards whose places agree as far as the count goes
@@ -93,13 +92,13 @@ module _ (count : ℕ) (board : List Place) (array security : List ℕ) (passed 
       let starts = starts_same count (places_of line) board place_same in
       (of_formed count false line fresh_formed, array_fits ∙ sym (starts (λ g. g.array)), security_fits ∙ sym (starts (λ g. g.security)))
 
-pub set_up_is_well_formed : (count : ℕ) (places : List Place) (array security : List ℕ) → verdict_of (set_up count places array security) ≡ Ok tt
-    → first_of (entry_checks (state_of (set_up count places array security)) array security) ≡ Ok tt
+pub set_up_is_well_formed : (count : ℕ) (places : List Place) (array security : List ℕ) → (set_up count places array security).verdict ≡ Ok tt
+    → first_of (entry_checks (set_up count places array security).bus array security) ≡ Ok tt
 unfolding set_up
 set_up_is_well_formed count board array security passed = go (first_of (set_up_checks count board array security)) refl passed
   where
-    go : (verdict : Verdict) → first_of (set_up_checks count board array security) ≡ verdict → verdict_of (set_up_by verdict count board) ≡ Ok tt
-        → first_of (entry_checks (state_of (set_up_by verdict count board)) array security) ≡ Ok tt
+    go : (verdict : Verdict) → first_of (set_up_checks count board array security) ≡ verdict → (set_up_by verdict count board).verdict ≡ Ok tt
+        → first_of (entry_checks (set_up_by verdict count board).bus array security) ≡ Ok tt
     go (Ok tt) is now = of_entry (fresh_bus count board) array security (fresh_entry count board array security is)
     go (Err refusal) is now = absurd (false≢true (ap is_ok now))
 

@@ -24,7 +24,6 @@ use Rattle.bus.specs.Setup.{set_up}
 use Rattle.bus.specs.Step.{entry_checks, played, event}
 use Rattle.bus.specs.Run.{Progress, run_event, run_up_to, run}
 use Rattle.promises.specs.Versions.{all_at_once, our_version, EventByEvent}
-use Rattle.promises.specs.SetUp.{state_of}
 use Rattle.promises.proofs.Setup.{set_up_is_well_formed}
 use Rattle.promises.proofs.Runs.{passed_run, run_passes}
 
@@ -60,7 +59,7 @@ abbrev security : List ℕ
 security = replicate 64 0xFF
 
 abbrev bus : Bus
-bus = state_of (set_up 1 board array security)
+bus = (set_up 1 board array security).bus
 
 abbrev events : List ℕ
 events = 0x0600 ∷ 0x0500 ∷ []

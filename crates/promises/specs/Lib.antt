@@ -2,7 +2,6 @@ pub mod ChipBytes
 pub mod ChipPlayed
 pub mod Own
 pub mod Playing
-pub mod SetUp
 pub mod Bytes
 pub mod Versions
 pub mod Answers

@@ -17,8 +17,7 @@ use Rattle.chip.specs.declared.Chip.{Chip}
 use Rattle.chip.specs.Chip.{fresh}
 use Rattle.chip.proofs.Typed.{ChipTyped}
 use Rattle.refusal.specs.Verdict.{Verdict}
-use Rattle.std.specs.Prelude.{Result, Ok, Err}
-use Rattle.refusal.specs.declared.Refusal.{Refusal}
+use Rattle.std.specs.Prelude.{Ok, Err}
 use Rattle.refusal.specs.Checks.{first_of}
 use Rattle.std.specs.Result.{is_ok}
 use Rattle.board.specs.declared.Place.{Place}
@@ -26,10 +25,9 @@ use Rattle.board.specs.Place.{place_at, placed}
 use Rattle.board.proofs.Laws.{placed_most}
 use Rattle.lineup.specs.Chips.{no_chip, chip_at}
 use Rattle.lineup.proofs.Filled.{filled_length, filled_at}
-use Rattle.bus.specs.declared.Bus.{Bus}
+use Rattle.bus.specs.declared.SetUp.{SetUp}
 use Rattle.bus.specs.Setup.{set_up_checks, empty_chip, fresh_chips, set_up_by, set_up}
 use Rattle.bus.proofs.Typed.{OfItsType, bus_typed}
-use Rattle.promises.specs.SetUp.{verdict_of, state_of}
 use Rattle.promises.proofs.Calls.{SetUpCall, set_up_typed}
 use Rattle.promises.proofs.Setup.{set_up_is_well_formed}
 use Rattle.turns.specs.Idle.{is_at_rest, is_idle}
@@ -39,8 +37,8 @@ use Rattle.turns.proofs.Typed.{standby_typed, fresh_typed, unloaded_typed, empty
 fresh_rests : (part strap : ℕ) → is_at_rest (fresh part strap) ≡ true
 fresh_rests part strap = refl
 
-pub set_up_is_ready : (count : ℕ) (places : List Place) (array security : List ℕ) → verdict_of (set_up count places array security) ≡ Ok tt
-    → Ready (state_of (set_up count places array security), array, security)
+pub set_up_is_ready : (count : ℕ) (places : List Place) (array security : List ℕ) → (set_up count places array security).verdict ≡ Ok tt
+    → Ready ((set_up count places array security).bus, array, security)
 unfolding set_up is_idle
 set_up_is_ready count places array security passed =
     record { enters = set_up_is_well_formed count places array security passed; idle = go (first_of (set_up_checks count places array security)) passed }
@@ -53,14 +51,14 @@ set_up_is_ready count places array security passed =
         ap is_at_rest (filled_at fresh_at (replicate 4 empty_chip) (placed count) i no_chip (omega (arith, placed_most count)) below)
         ∙ fresh_rests (place_at places i).part (place_at places i).strap
 
-    go : (verdict : Verdict) → verdict_of (set_up_by verdict count places) ≡ Ok tt
-        → let bus = state_of (set_up_by verdict count places) in all_below (λ (i : ℕ). is_at_rest (chip_at bus.chips i)) (placed bus.count) ≡ true
+    go : (verdict : Verdict) → (set_up_by verdict count places).verdict ≡ Ok tt
+        → let bus = (set_up_by verdict count places).bus in all_below (λ (i : ℕ). is_at_rest (chip_at bus.chips i)) (placed bus.count) ≡ true
     go (Ok tt) is = all_each (λ (i : ℕ). is_at_rest (chip_at (fresh_chips places (placed count)) i)) (placed count) rests
     go (Err refusal) is = absurd (false≢true (ap is_ok is))
 
 -- and of its type, whatever it says, where its count and its places are values of theirs
 pub set_up_is_typed : (count : ℕ) (places : List Place) (array security : List ℕ) → count < 2 ^ 64 → ((i : ℕ) → ((place_at places i).part < 256) × ((place_at places i).strap < 256))
-    → OfItsType (state_of (set_up count places array security))
+    → OfItsType (set_up count places array security).bus
 unfolding set_up
 set_up_is_typed count places array security fits bytes = go (first_of (set_up_checks count places array security))
   where
@@ -73,7 +71,7 @@ set_up_is_typed count places array security fits bytes = go (first_of (set_up_ch
     none : Every ChipTyped (replicate 4 empty_chip)
     none = (empty_typed, (empty_typed, (empty_typed, (empty_typed, tt))))
 
-    go : (verdict : Verdict) → OfItsType (state_of (set_up_by verdict count places))
+    go : (verdict : Verdict) → OfItsType (set_up_by verdict count places).bus
     go (Ok tt) =
         bus_typed count false (fresh_chips places (placed count)) no_values fits (filled_length fresh_at (replicate 4 empty_chip) (placed count))
         (up_keeps _ (Every ChipTyped) (λ i chips so_far. every_set ChipTyped chips i (fresh_at i) so_far (typed_at i)) (placed count) (replicate 4 empty_chip) none)
@@ -88,10 +86,9 @@ module _ (call : SetUpCall) where
   abbrev security : List ℕ
   security = call.arguments.1.1.1.0.now
 
-  pub a_set_up_is_ready : (bus : Bus) → call.result ≡ Ok bus → OfItsType bus × Ready (bus, array, security)
-  a_set_up_is_ready bus is =
-      let made = sym call.ensured ∙ is in (
-        set_up_typed call bus is,
-        subst (λ (up : Result Bus Refusal). Ready (state_of up, array, security)) made
-            (set_up_is_ready call.arguments.0 call.arguments.1.0 array security (ap verdict_of made)),
-      )
+  pub a_set_up_is_ready : call.result.verdict ≡ Ok tt → OfItsType call.result.bus × Ready (call.result.bus, array, security)
+  a_set_up_is_ready passed = (
+    set_up_typed call,
+    subst (λ (up : SetUp). Ready (up.bus, array, security)) (sym call.ensured)
+        (set_up_is_ready call.arguments.0 call.arguments.1.0 array security (ap (λ (up : SetUp). up.verdict) (sym call.ensured) ∙ passed)),
+  )

@@ -150,11 +150,15 @@ fn serve(
     }
 }
 
-// Memories for the largest board, of which the board is lent its part, and room for a file.
-fn start(rt: &HostRuntime, traced: bool, board: Board) -> Status {
-    let mut array = erased_arrays();
-    let mut security = erased_registers();
-    let mut text = blank_text();
+// Lends the board memories of its size. Apart from `start`: beside the arrays themselves, their bounds were not proved (out of stack).
+fn fit(
+    rt: &HostRuntime,
+    traced: bool,
+    board: Board,
+    array: &mut [u8],
+    security: &mut [u8],
+    text: &mut [u8],
+) -> Status {
     let array_end = board.array_end(array.len());
     let security_end = board.security_end(security.len());
     serve(
@@ -163,8 +167,16 @@ fn start(rt: &HostRuntime, traced: bool, board: Board) -> Status {
         board,
         &mut array[..array_end],
         &mut security[..security_end],
-        &mut text,
+        text,
     )
+}
+
+// Memories for the largest board, and room for a file.
+fn start(rt: &HostRuntime, traced: bool, board: Board) -> Status {
+    let mut array = erased_arrays();
+    let mut security = erased_registers();
+    let mut text = blank_text();
+    fit(rt, traced, board, &mut array, &mut security, &mut text)
 }
 
 fn main(rt: HostRuntime) {

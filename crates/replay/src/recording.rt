@@ -74,10 +74,14 @@ fn compare(rt: &HostRuntime, name: &[u8], said: &[u8], recorded: &[u8]) -> bool 
     false
 }
 
-// The answers on a board, which is lent memories of its size.
-fn answers_of(board: Board, text: &[u8], said: &mut [u8]) -> usize {
-    let mut array = erased_arrays();
-    let mut security = erased_registers();
+// The board in memories of its size. Apart from `answers_of`: beside the arrays themselves, their bounds are not proved (out of stack).
+fn answers_in_part(
+    board: Board,
+    array: &mut [u8],
+    security: &mut [u8],
+    text: &[u8],
+    said: &mut [u8],
+) -> usize {
     let array_end = board.array_end(array.len());
     let security_end = board.security_end(security.len());
     answers_on(
@@ -87,6 +91,13 @@ fn answers_of(board: Board, text: &[u8], said: &mut [u8]) -> usize {
         text,
         said,
     )
+}
+
+// The answers on a board.
+fn answers_of(board: Board, text: &[u8], said: &mut [u8]) -> usize {
+    let mut array = erased_arrays();
+    let mut security = erased_registers();
+    answers_in_part(board, &mut array, &mut security, text, said)
 }
 
 pub fn as_recorded(rt: &HostRuntime, name: &[u8], board: Board) -> bool {

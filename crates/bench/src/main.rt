@@ -10,7 +10,7 @@ mod tracing;
 
 use arguments::{Arguments, tell_fault, tell_status};
 use block::{close, next_block, read_block};
-use bus::Bus;
+use bus::{Bus, SetUp};
 use conversation::converse;
 use conversation::tape::text_on;
 use errands::telling::{tell_failure, tell_refusal};
@@ -141,12 +141,13 @@ fn serve(
     text: &mut [u8],
 ) -> Status {
     mark_serials(board.count, board.places, security);
-    match Bus::set_up(board.count, board.places, array, security) {
+    let SetUp { bus, verdict } = Bus::set_up(board.count, board.places, array, security);
+    match verdict {
         Err(refusal) => {
             tell_refusal(rt, b"board", 0, refusal);
             refused(rt, traced, refusal)
         }
-        Ok(bus) => play(rt, traced, bus, array, security, text),
+        Ok(()) => play(rt, traced, bus, array, security, text),
     }
 }
 

@@ -65,12 +65,7 @@ impl Bus {
 
     // Checks 1 to 5 in that order over all chips; writes to neither store. Places past the count are ignored.
     #[tactic(auto, unfolding(crate::specs::Setup::set_up))]
-    pub fn set_up(
-        count: usize,
-        places: [Place; PLACES],
-        array: &[u8],
-        security: &[u8],
-    ) -> SetUp
+    pub fn set_up(count: usize, places: [Place; PLACES], array: &[u8], security: &[u8]) -> SetUp
         ensures { result ≡ set_up count places array.now security.now }
     {
         let verdict = set_up_verdict(count, places, array, security);

@@ -4,7 +4,7 @@ ghost use Rattle.std.specs.Prelude.{◌≤◌, ◌≡◌, length, IfSome};
 use crate::expected::{Expected, NAME, expected_by};
 use crate::whole::{fill_in, other_line};
 use board::Place;
-use bus::Bus;
+use bus::{Bus, SetUp};
 use factory::{erased_arrays, erased_registers};
 use files::{read_whole, with_ending};
 use image::loading::load;
@@ -186,8 +186,9 @@ impl Recorded<'_> {
         let security_end = board.security_end(security.len());
         let array = &mut array[..array_end];
         let security = &mut security[..security_end];
-        match Bus::set_up(board.count, board.places, array, security) {
-            Ok(bus) => self.loads(bus, array, security, text, spare),
+        let SetUp { bus, verdict } = Bus::set_up(board.count, board.places, array, security);
+        match verdict {
+            Ok(()) => self.loads(bus, array, security, text, spare),
             Err(_) => {
                 self.tell(b": there is no such part\n");
                 false

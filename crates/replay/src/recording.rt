@@ -1,5 +1,5 @@
 // A recording: the file NAME has a transcript, NAME.answers what the bench must answer.
-use bus::Bus;
+use bus::{Bus, SetUp};
 use conversation::answer_all;
 use conversation::tape::text_on;
 use factory::{erased_arrays, erased_registers, mark_serials};
@@ -37,8 +37,9 @@ fn answers_on(
     said: &mut [u8],
 ) -> usize {
     mark_serials(board.count, board.places, security);
-    match Bus::set_up(board.count, board.places, array, security) {
-        Ok(bus) => answer_all(bus, array, security, text, said).written,
+    let SetUp { bus, verdict } = Bus::set_up(board.count, board.places, array, security);
+    match verdict {
+        Ok(()) => answer_all(bus, array, security, text, said).written,
         Err(refusal) => {
             if PRINTED_BYTES <= said.len() {
                 said[..PRINTED_BYTES].copy_from_slice(&closing(u8::from(refusal)));

@@ -1,5 +1,7 @@
 // What is expected of a file. A word is PART:NN:LLLLL:NAME: the part of the chip, the number that loading must answer (00: taken), the
 // line at fault, and the file; numbers are in decimal.
+ghost use Rattle.std.specs.Prelude.{◌≤◌, length, IfSome};
+
 #[derive(Clone, Copy)]
 pub struct Expected {
     pub part: u8,
@@ -52,7 +54,9 @@ fn number_in(digits: &[u8]) -> usize {
 }
 
 // Nothing is expected of a word of another form.
-pub fn expected_by(word: &[u8]) -> Option<Expected> {
+pub fn expected_by(word: &[u8]) -> Option<Expected>
+    ensures { IfSome result (λ _. 11 ≤ length word.now) }
+{
     if word.len() <= NAME || !FORM.iter().zip(word).all(|(form, byte)| fits(*form, *byte)) {
         return None;
     }

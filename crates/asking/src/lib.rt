@@ -28,6 +28,7 @@ pub const PATH: usize = 7;
 
 const COLON: u8 = b':';
 
+// The library's method, under the name of the definition.
 #[tactic(auto, using(crate::proofs::Openings::starts_opens))]
 fn opens(opening: &[u8], word: &[u8]) -> bool
     ensures { result ≡ opens opening.now word.now }

@@ -66,7 +66,8 @@ fn any_shared_address(chips: &[Place]) -> bool
         .any(|(i, chip)| shares_with_earlier(*chip, &chips[..i]))
 }
 
-// Checks 1 to 4 of set-up, in that order over all chips. Places past the count are ignored.
+// Checks 1 to 4 of set-up, in that order over all chips. Places past the count are ignored. Count and places are apart, and no struct of the two is
+// asked for: definition and theorems of set-up have them so.
 #[tactic(auto, unfolding(crate::specs::Board::board_verdict), using(crate::proofs::Laws::of_chips))]
 pub fn board_verdict(count: usize, places: [Place; PLACES]) -> Result<(), Refusal>
     ensures { result ≡ board_verdict count places }

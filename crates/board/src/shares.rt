@@ -36,7 +36,7 @@ fn sizes_of(region: Region, chips: &[Place]) -> usize
         .sum()
 }
 
-// Where the share of chip i starts, and with the count of chips where the store ends.
+// Where the share of chip i starts, and with the count of chips where the store ends. Two public names over `sizes_of`, one for each store.
 #[tactic(auto, using(crate::proofs::Laws::placed_most, crate::proofs::Laws::sizes_start))]
 pub fn array_start(i: usize, places: [Place; PLACES]) -> usize
     ensures { result ≡ array_start places (placed i) }

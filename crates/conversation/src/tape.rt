@@ -16,7 +16,8 @@ pub fn text_on(tape: &[u8], filled: usize) -> &[u8]
     &tape[..text_end(tape, filled)]
 }
 
-// Moves what is left of the text to the tape's start, so that the next block is read behind it, and answers how much that is.
+// Moves what is left of the text to the tape's start, so that the next block is read behind it, and answers how much that is. Tape and length are
+// apart, since memory is fixed: the next block is read into the same tape.
 #[tactic(auto, using(crate::proofs::Laws::moved))]
 pub fn keep_rest(tape: &mut [u8], filled: usize, used: usize) -> usize
     ensures { (result, tape.new) ≡ keep_rest tape.old filled used }

@@ -76,7 +76,8 @@ fn stop_data(
     }
 }
 
-// A Stop. A busy chip takes no notice.
+// A Stop. A busy chip takes no notice. The shares are two slices and no struct of two (tried): a contract would have to say of such a struct too
+// that each reference is still the one that was lent.
 #[tactic(auto, unfolding(crate::specs::Stop::stop))]
 pub fn stop(
     c: Control,

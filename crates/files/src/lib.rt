@@ -39,7 +39,7 @@ fn open<R: Files>(files: &R, path: &[u8], options: &OpenOptions) -> io::Result<R
     }
 }
 
-// One read, asked again where a signal interrupts it.
+// One read, asked again where a signal interrupts it. That of `stream` also waits where a descriptor is not to wait, which a file does not ask.
 fn read_some<F: Read>(file: &mut F, room: &mut [u8]) -> io::Result<usize>
     ensures { ReadsAtMost result room.new }
 {
@@ -64,7 +64,7 @@ fn end_of<F: Read>(file: &mut F, size: usize) -> Result<usize, Unread>
     }
 }
 
-// A read that brings less than there is room for is not the end: one that brings nothing is.
+// A read that brings less than there is room for is not the end: one that brings nothing is. The loop counts bytes, and not its turns.
 fn read_all<F: Read>(file: &mut F, into: &mut [u8]) -> Result<usize, Unread>
     ensures { size_of result ≤ length into.new }
 {

@@ -129,6 +129,7 @@ fn next_storing(text: &[u8], share: &mut [u8], reading: Reading) -> Reading
     next
 }
 
+// The loop of `scan`, which stores: one for both would take a closure over the lent share, for three lines.
 fn store_all(text: &[u8], share: &mut [u8])
     ensures { share.new ≡ stored text.now share.old }
 {

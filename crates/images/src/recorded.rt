@@ -34,6 +34,7 @@ fn blank_text() -> [u8; TEXT]
     [0u8; TEXT]
 }
 
+// In both test programs: two lines, and no library is for test programs alone.
 fn tell(rt: &HostRuntime, name: &[u8], what: &[u8]) {
     let _ = rt.write_all(name);
     let _ = rt.write_all(what);

@@ -221,7 +221,8 @@ fn read_each(
     Played { chips, said }
 }
 
-// What an event meets is asked once, outside the loop over the chips.
+// What an event meets is asked once, outside the loop over the chips. Count and chips are apart: `play_with` and the theorems of demands 2 and 3 have
+// them so.
 pub fn play(
     addressed: Addressed,
     count: usize,

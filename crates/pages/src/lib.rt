@@ -15,7 +15,8 @@ use lineup::places_of;
 use parts::part::geometry_of;
 use refusal::Refusal;
 
-// The number of the array store; the security store is 1.
+// The number of the array store; the security store is 1. A number and no enum: any may be asked for, and 7 refuses the others (paper, "The two
+// memories").
 const ARRAY: u8 = 0;
 
 const SECURITY: u8 = 1;

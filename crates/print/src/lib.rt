@@ -17,6 +17,7 @@ const NO_EVENT: u16 = 0xFFFF;
 // From this value on a digit is a letter.
 const LETTERS: u8 = 10;
 
+// The library has no method for one digit of upper case as a byte.
 fn digit_text(value: u8) -> u8
     requires { value < 16 }
     ensures { result ≡ digit_text value }

@@ -59,6 +59,7 @@ fn line_number(place: usize) -> u64 {
     (place / PRINTED_BYTES) as u64 + 1
 }
 
+// In both test programs: two lines, and no library is for test programs alone.
 fn tell(rt: &HostRuntime, name: &[u8], what: &[u8]) {
     let _ = rt.write_all(name);
     let _ = rt.write_all(what);

@@ -14,7 +14,7 @@ pub const MALFORMED: u8 = 9;
 // How many bytes a line has.
 pub const FRAME_BYTES: usize = 5;
 
-// What stands at a place of a transcript. The paper's number and values of each case: `meaning`, in specs/Frame.antt.
+// What stands at a place of a transcript: three cases, so neither an Option nor a Result. The paper's number and values of each case: `meaning`, in specs/Frame.antt.
 #[derive(Clone, Copy, Debug, PartialEq, Eq)]
 pub enum Frame {
     // An event, and the place after its line.

@@ -58,7 +58,7 @@ fn take_register_first(c: Control, byte: u8) -> Answered
     }
 }
 
-// Only a security address sets the security counter. A16 means nothing to it.
+// Only a security address sets the security counter. A16 means nothing to it. No twin of `take_array_second`: it also says what a 1011 read shows.
 fn take_security(first: u8, c: Control, byte: u8) -> Answered
     ensures { result ≡ take_security first c byte }
 {

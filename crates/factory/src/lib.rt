@@ -1,10 +1,11 @@
 // Chips as they leave the factory: erased, and with a serial number each (paper, "The transcript"; sheets, section 10.1).
 #![tactic(auto)]
 
-ghost use Rattle.std.specs.Prelude.{◌<◌, ◌≤◌, ◌^◌, ◌≡◌, set, length};
+ghost use Rattle.std.specs.Prelude.{◌<◌, ◌≤◌, ◌^◌, ◌≡◌, length};
 ghost use Rattle.factory.specs.Memory.{erased, arrays_size, registers_size};
 ghost use Rattle.factory.specs.Serial.{marked, serial_byte, serial, serials};
 
+use base::share::put;
 use board::shares::security_start;
 use board::{PLACES, Place, placed};
 use parts::part::{Part24CSM01, geometry_of};
@@ -45,15 +46,6 @@ const SERIAL: usize = 16;
 
 // Every byte of chip k's serial number is this and k.
 const FIRST_SERIAL: u8 = 0x10;
-
-// Past the store there is nothing to store to. By index: `get_mut` says nothing of what the slice ends as.
-fn put(byte: u8, at: usize, security: &mut [u8])
-    ensures { security.new ≡ set security.old at byte }
-{
-    if at < security.len() {
-        security[at] = byte;
-    }
-}
 
 #[tactic(auto, unfolding(crate::specs::Serial::marked, base::specs::Fold::up_to))]
 fn mark(byte: u8, at: usize, security: &mut [u8])

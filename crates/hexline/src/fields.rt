@@ -1,11 +1,12 @@
 // The fields of a record, from the text from the record on: `:`, two digits for each byte (how many data bytes, the address in two, the
 // type, the data, a check byte), then LF or CR LF (request E1).
-ghost use Rattle.std.specs.Prelude.{◌≡◌, set};
+ghost use Rattle.std.specs.Prelude.{◌≡◌};
 ghost use Rattle.std.specs.List.{list_all};
 ghost use Rattle.hexline.specs.Digit.{is_hex_digit};
 ghost use Rattle.hexline.specs.Fields.{char_at, byte_at, count_in, address_in, kind_in, upper_in, bytes_in, sum_in, end_at, end_size, line_size, is_framed, first_address, put_data};
 
 use crate::digit::{is_hex_digit, value_of};
+use base::share::put;
 use base::word::word_of;
 use transcript::digit::DIGITS;
 use transcript::frame::LF;
@@ -135,15 +136,6 @@ pub fn first_address(rest: &[u8], upper: u16) -> usize
     ensures { result ≡ first_address upper rest.now }
 {
     upper as usize * UPPER_STEP + address_in(rest) as usize
-}
-
-// Past the array there is nothing to store to. (An index: of what a `get_mut` leaves a proof knows the length alone.)
-fn put(byte: u8, at: usize, share: &mut [u8])
-    ensures { share.new ≡ set share.old at byte }
-{
-    if at < share.len() {
-        share[at] = byte;
-    }
 }
 
 // Stores the data bytes, on past FFFFh where there are as many.

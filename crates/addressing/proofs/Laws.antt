@@ -12,18 +12,14 @@ use Rattle.control.specs.declared.phase.Phase.TheVariants.{Standby}
 use Rattle.control.specs.Control.{choosing}
 use Rattle.control.specs.Said.{acked, silent, occupied, stays}
 use Rattle.addressing.specs.declared.Call.{Call}
-use Rattle.addressing.specs.declared.Call.TheVariants.{ReadArray, WriteArray, ReadRegister, WriteRegister, HostF8, HostF9, Nobody}
+use Rattle.addressing.specs.declared.Call.TheVariants.{ReadArray, WriteArray, Nobody}
 use Rattle.addressing.specs.Address.{call_by_form, is_able, call_of, names, take_busy, take_chosen, take_choice}
 
 module _ (c : Control) (byte : ℕ) (P : Answered → Type 0) (picked : P (acked Standby (choosing true c))) (passed : P (silent Standby c)) where
   by_call : (call : Call) → P (take_chosen call c)
   by_call ReadArray = picked
   by_call (WriteArray a16) = picked
-  by_call ReadRegister = passed
-  by_call WriteRegister = passed
-  by_call HostF8 = passed
-  by_call HostF9 = passed
-  by_call Nobody = passed
+  by_call _ = passed
 
   pub choice_either : P (take_choice c byte)
   unfolding take_choice

@@ -5,7 +5,6 @@ ghost use Rattle.std.specs.Prelude.{◌≡◌};
 ghost use Rattle.parts.specs.Part.{geometry_of};
 ghost use Rattle.addressing.specs.Address.{call_by_form, is_able, call_of, source_of, take_address, take_identify, is_named, take_busy, take_choice};
 
-use base::logic::and;
 use control::phase::{Phase, Shown, Source, Word};
 use control::{Answered, Control};
 use parts::address::{a16_of, answers};
@@ -21,7 +20,7 @@ const F8: u8 = 0xF8;
 const F9: u8 = 0xF9;
 
 // What an address byte asks of a chip. A write to the array carries A16.
-#[derive(Clone, Copy)]
+#[derive(Clone, Copy, Debug, PartialEq, Eq)]
 pub enum Call {
     ReadArray,
     WriteArray(bool),
@@ -47,34 +46,24 @@ fn call_by_form(part: u8, strap: u8, byte: u8) -> Call
     if !answers(part, strap, code) {
         return Call::Nobody;
     }
-    if byte / 16 == ARRAY {
-        if byte % 2 == 1 {
-            return Call::ReadArray;
-        }
-        return Call::WriteArray(a16_of(part, code));
+    match (byte / 16, byte % 2 == 1) {
+        (ARRAY, true) => Call::ReadArray,
+        (ARRAY, false) => Call::WriteArray(a16_of(part, code)),
+        (REGISTERS, true) => Call::ReadRegister,
+        (REGISTERS, false) => Call::WriteRegister,
+        _ => Call::Nobody,
     }
-    if byte / 16 == REGISTERS {
-        if byte % 2 == 1 {
-            return Call::ReadRegister;
-        }
-        return Call::WriteRegister;
-    }
-    Call::Nobody
 }
 
 // 1011 bytes are for a part that has registers, F8h and F9h for one that identifies itself (request E7).
 fn is_able(part: u8, call: Call) -> bool
     ensures { result ≡ is_able (geometry_of part) call }
 {
-    let g = geometry_of(part);
+    let figures = geometry_of(part);
     match call {
-        Call::ReadArray => true,
-        Call::WriteArray(_) => true,
-        Call::ReadRegister => g.registers,
-        Call::WriteRegister => g.registers,
-        Call::HostF8 => g.identifies,
-        Call::HostF9 => g.identifies,
-        Call::Nobody => true,
+        Call::ReadRegister | Call::WriteRegister => figures.registers,
+        Call::HostF8 | Call::HostF9 => figures.identifies,
+        Call::ReadArray | Call::WriteArray(_) | Call::Nobody => true,
     }
 }
 
@@ -85,9 +74,10 @@ pub fn call_of(part: u8, strap: u8, byte: u8) -> Call
 {
     let asked = call_by_form(part, strap, byte);
     if is_able(part, asked) {
-        return asked;
+        asked
+    } else {
+        Call::Nobody
     }
-    Call::Nobody
 }
 
 // Where a 1011 read comes from; the configuration register starts at byte 0.
@@ -117,13 +107,11 @@ fn take_identify(c: Control) -> Answered
 pub fn take_address(c: Control, byte: u8) -> Answered
     ensures { result ≡ take_address c byte }
 {
-    let shown = c.shown;
     let dropped = c.choosing(false);
-    let call = call_of(c.part, c.strap, byte);
-    match call {
+    match call_of(c.part, c.strap, byte) {
         Call::ReadArray => dropped.acked(Phase::SendsByte(Source::FromArray)),
         Call::WriteArray(a16) => dropped.acked(Phase::AwaitsWord(Word::ArrayFirst(a16))),
-        Call::ReadRegister => dropped.acked(Phase::SendsByte(source_of(shown))),
+        Call::ReadRegister => dropped.acked(Phase::SendsByte(source_of(c.shown))),
         Call::WriteRegister => dropped.acked(Phase::AwaitsWord(Word::RegisterFirst)),
         Call::HostF8 => dropped.acked(Phase::AwaitsChoice),
         Call::HostF9 => take_identify(c),
@@ -135,15 +123,10 @@ pub fn take_address(c: Control, byte: u8) -> Answered
 fn is_named(call: Call) -> bool
     ensures { result ≡ is_named call }
 {
-    match call {
-        Call::ReadArray => true,
-        Call::WriteArray(_) => true,
-        Call::ReadRegister => true,
-        Call::WriteRegister => true,
-        Call::HostF8 => false,
-        Call::HostF9 => false,
-        Call::Nobody => false,
-    }
+    matches!(
+        call,
+        Call::ReadArray | Call::WriteArray(_) | Call::ReadRegister | Call::WriteRegister
+    )
 }
 
 // A byte that finds the chip busy: only an address byte that names it gets a word (request E8).
@@ -151,11 +134,11 @@ fn is_named(call: Call) -> bool
 pub fn take_busy(c: Control, first: bool, byte: u8) -> Answered
     ensures { result ≡ take_busy c first byte }
 {
-    let call = call_of(c.part, c.strap, byte);
-    if and(first, is_named(call)) {
-        return c.occupied();
+    if first && is_named(call_of(c.part, c.strap, byte)) {
+        c.occupied()
+    } else {
+        c.stays()
     }
-    c.stays()
 }
 
 // The byte after F8h chooses the chip whose 1010 address it is, for reading or writing.
@@ -163,15 +146,8 @@ pub fn take_busy(c: Control, first: bool, byte: u8) -> Answered
 pub fn take_choice(c: Control, byte: u8) -> Answered
     ensures { result ≡ take_choice c byte }
 {
-    let chosen = c.choosing(true);
-    let call = call_of(c.part, c.strap, byte);
-    match call {
-        Call::ReadArray => chosen.acked(Phase::Standby),
-        Call::WriteArray(_) => chosen.acked(Phase::Standby),
-        Call::ReadRegister => c.silent(Phase::Standby),
-        Call::WriteRegister => c.silent(Phase::Standby),
-        Call::HostF8 => c.silent(Phase::Standby),
-        Call::HostF9 => c.silent(Phase::Standby),
-        Call::Nobody => c.silent(Phase::Standby),
+    match call_of(c.part, c.strap, byte) {
+        Call::ReadArray | Call::WriteArray(_) => c.choosing(true).acked(Phase::Standby),
+        _ => c.silent(Phase::Standby),
     }
 }

@@ -1,8 +1,8 @@
 -- A word that asks for a file: load:K:FILE or save:K:FILE. K is the chip's digit, one of the transcript's; FILE has at least one byte.
-use Rattle.std.specs.Prelude.{ℕ, ◌<◌, Bool, true, false, cond, ◌&&◌, List, [], ◌∷◌, ◌++◌, ◌≡◌, eqb, ltb, length, get_or}
+use Rattle.std.specs.Prelude.{ℕ, ◌<◌, Bool, true, false, cond, ◌&&◌, List, [], ◌∷◌, ◌++◌, ◌≡◌, eqb, ltb, length, get_or, Option, Some, None}
 use Rattle.transcript.specs.Digit.{digit_of, is_digit}
 use Rattle.asking.specs.declared.Asked.{Asked}
-use Rattle.asking.specs.declared.Asked.TheVariants.{Load, Save, Unknown}
+use Rattle.asking.specs.declared.Asked.TheVariants.{Load, Save}
 
 abbrev pub colon : ℕ
 colon = 58
@@ -24,12 +24,12 @@ opens (b ∷ more) (a ∷ word) = eqb a b && opens more word
 abbrev pub names_file : List ℕ → Bool
 names_file word = ltb 7 (length word) && (is_digit (get_or word 5 0) && eqb (get_or word 6 0) colon)
 
-abbrev pub asked_of : List ℕ → ℕ → Asked
-asked_of word chip = cond (opens loading word) (Load chip) (cond (opens saving word) (Save chip) Unknown)
+abbrev pub asked_of : List ℕ → ℕ → Option Asked
+asked_of word chip = cond (opens loading word) (Some (Load chip)) (cond (opens saving word) (Some (Save chip)) None)
 
 -- what a word asks for; one of another form asks for nothing
-abbrev pub asked_by : List ℕ → Asked
-asked_by word = cond (names_file word) (asked_of word (digit_of (get_or word 5 0))) Unknown
+abbrev pub asked_by : List ℕ → Option Asked
+asked_by word = cond (names_file word) (asked_of word (digit_of (get_or word 5 0))) None
 
 -- a word of that form, with its chip and its path
 pub record Asks (opening word : List ℕ) (chip : ℕ) (path : List ℕ) : Type 0 where

@@ -1,9 +1,8 @@
 -- A word that asks for a page to be shown: page:K:STORE:N. K and STORE are a digit each, N is one to four, all of them the transcript's.
-use Rattle.std.specs.Prelude.{ℕ, ◌+◌, ◌*◌, ◌%◌, Bool, true, cond, ◌&&◌, List, [], ◌∷◌, eqb, ltb, leb, length, get_or, drop}
+use Rattle.std.specs.Prelude.{ℕ, ◌+◌, ◌*◌, ◌%◌, Bool, true, cond, ◌&&◌, List, [], ◌∷◌, eqb, ltb, leb, length, get_or, drop, Option, Some, None}
 use Rattle.transcript.specs.Digit.{digit_of, is_digit}
 use Rattle.asking.specs.Asking.{colon, opens}
 use Rattle.asking.specs.declared.page.PageAsked.{PageAsked}
-use Rattle.asking.specs.declared.page.PageAsked.TheVariants.{Page, Unknown}
 
 -- "page:"
 abbrev pub showing : List ℕ
@@ -28,6 +27,17 @@ names_page word =
     opens showing word
     && (is_digit (get_or word 5 0) && (eqb (get_or word 6 0) colon && (is_digit (get_or word 7 0) && (eqb (get_or word 8 0) colon && is_number (drop 9 word)))))
 
-abbrev pub page_asked : List ℕ → PageAsked
-page_asked word =
-    cond (names_page word) (Page (digit_of (get_or word 5 0)) (digit_of (get_or word 7 0)) (number_from 0 (drop 9 word))) Unknown
+-- the number of these digits
+abbrev pub number_of : List ℕ → Option ℕ
+number_of digits = cond (is_number digits) (Some (number_from 0 digits)) None
+
+-- chip, store and page, of a word that has a digit where each begins
+abbrev pub page_in : List ℕ → PageAsked
+page_in word = record { chip = digit_of (get_or word 5 0); store = digit_of (get_or word 7 0); page = number_from 0 (drop 9 word) }
+
+abbrev pub page_asked : List ℕ → Option PageAsked
+page_asked word = cond (names_page word) (Some (page_in word)) None
+
+-- what the digits alone name
+abbrev pub page_at : List ℕ → Option PageAsked
+page_at word = cond (is_digit (get_or word 5 0) && (is_digit (get_or word 7 0) && is_number (drop 9 word))) (Some (page_in word)) None

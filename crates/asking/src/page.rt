@@ -1,17 +1,15 @@
 // A page asked for: page:K:STORE:N.
 ghost use Rattle.std.specs.Prelude.{◌≡◌, ◌<◌, length};
-ghost use Rattle.transcript.specs.Digit.{is_digit};
-ghost use Rattle.asking.specs.Page.{all_digits, number_from, is_number, names_page, page_asked};
+ghost use Rattle.asking.specs.Page.{number_of, page_at, page_asked};
 
 use crate::{AFTER, CHIP, COLON, opens};
-use base::logic::and;
-use transcript::digit::{DIGITS, digit_of};
+use transcript::digit::{DIGITS, digit_value};
 
-// Chip, store and page.
-#[derive(Clone, Copy)]
-pub enum PageAsked {
-    Page(usize, u8, usize),
-    Unknown,
+#[derive(Clone, Copy, Debug, PartialEq, Eq)]
+pub struct PageAsked {
+    pub chip: usize,
+    pub store: u8,
+    pub page: usize,
 }
 
 // Where the store's digit stands in the word, the colon after it, and the page's number.
@@ -26,70 +24,37 @@ const NUMBER_DIGITS: usize = 4;
 
 const SHORTER: usize = 0x1000;
 
-fn all_digits(digits: &[u8]) -> bool
-    ensures { result ≡ all_digits digits.now }
+// One to four digits.
+fn number_of(digits: &[u8]) -> Option<usize>
+    ensures { result ≡ number_of digits.now }
 {
-    let mut i: usize = 0;
-    while i < digits.len() {
-        if DIGITS <= digit_of(digits[i]) {
-            return false;
-        }
-        i += 1;
+    if digits.is_empty() || NUMBER_DIGITS < digits.len() {
+        return None;
     }
-    true
-}
-
-fn number_from(digits: &[u8]) -> usize
-    ensures { result ≡ number_from 0 digits.now }
-{
     let mut number: usize = 0;
-    let mut i: usize = 0;
-    while i < digits.len() {
-        number = number % SHORTER * (DIGITS as usize) + digit_of(digits[i]) as usize;
-        i += 1;
+    for digit in digits {
+        number = number % SHORTER * DIGITS as usize + digit_value(*digit)? as usize;
     }
-    number
+    Some(number)
 }
 
-fn is_number(digits: &[u8]) -> bool
-    ensures { result ≡ is_number digits.now }
-{
-    let some = 0 < digits.len();
-    let short = digits.len() <= NUMBER_DIGITS;
-    and(some, and(short, all_digits(digits)))
-}
-
-fn is_digit(byte: u8) -> bool
-    ensures { result ≡ is_digit byte }
-{
-    digit_of(byte) < DIGITS
-}
-
-// A word that is long enough to have each byte.
-fn names_page(word: &[u8]) -> bool
+// What the digits of a word name, each where it should stand.
+fn page_at(word: &[u8]) -> Option<PageAsked>
     requires { 9 < length word.now }
-    ensures { result ≡ names_page word.now }
+    ensures { result ≡ page_at word.now }
 {
-    let store = and(
-        is_digit(word[STORE]),
-        and(word[AFTER_STORE] == COLON, is_number(&word[NUMBER..])),
-    );
-    let chip = and(is_digit(word[CHIP]), and(word[AFTER] == COLON, store));
-    and(opens(b"page:", word), chip)
+    let chip = digit_value(word[CHIP])? as usize;
+    let store = digit_value(word[STORE])?;
+    let page = number_of(&word[NUMBER..])?;
+    Some(PageAsked { chip, store, page })
 }
 
-pub fn page_asked(word: &[u8]) -> PageAsked
+pub fn page_asked(word: &[u8]) -> Option<PageAsked>
     ensures { result ≡ page_asked word.now }
 {
-    if word.len() <= NUMBER {
-        return PageAsked::Unknown;
-    }
-    if names_page(word) {
-        return PageAsked::Page(
-            digit_of(word[CHIP]) as usize,
-            digit_of(word[STORE]),
-            number_from(&word[NUMBER..]),
-        );
-    }
-    PageAsked::Unknown
+    let named = NUMBER < word.len()
+        && opens(b"page:", word)
+        && word[AFTER] == COLON
+        && word[AFTER_STORE] == COLON;
+    if named { page_at(word) } else { None }
 }

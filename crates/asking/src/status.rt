@@ -3,30 +3,20 @@ ghost use Rattle.std.specs.Prelude.{◌≡◌};
 ghost use Rattle.asking.specs.Status.{status_asked};
 
 use crate::opens;
-use transcript::digit::{DIGITS, digit_of};
-
-#[derive(Clone, Copy)]
-pub enum StatusAsked {
-    On(u8),
-    Unknown,
-}
+use transcript::digit::digit_value;
 
 // How long the word is, and where the descriptor's digit stands in it.
 const STATUS: usize = 8;
 
 const DESCRIPTOR: usize = 7;
 
-pub fn status_asked(word: &[u8]) -> StatusAsked
+// The descriptor.
+pub fn status_asked(word: &[u8]) -> Option<u8>
     ensures { result ≡ status_asked word.now }
 {
-    if word.len() != STATUS {
-        return StatusAsked::Unknown;
+    if word.len() == STATUS && opens(b"status:", word) {
+        digit_value(word[DESCRIPTOR])
+    } else {
+        None
     }
-    if opens(b"status:", word) {
-        let descriptor = digit_of(word[DESCRIPTOR]);
-        if descriptor < DIGITS {
-            return StatusAsked::On(descriptor);
-        }
-    }
-    StatusAsked::Unknown
 }

@@ -3,7 +3,6 @@ ghost use Rattle.std.specs.Prelude.{◌≡◌};
 ghost use Rattle.asking.specs.Trace.{asks_trace};
 
 use crate::opens;
-use base::logic::and;
 
 // How long the word is.
 const TRACE: usize = 5;
@@ -11,5 +10,5 @@ const TRACE: usize = 5;
 pub fn asks_trace(word: &[u8]) -> bool
     ensures { result ≡ asks_trace word.now }
 {
-    and(word.len() == TRACE, opens(b"trace", word))
+    word.len() == TRACE && opens(b"trace", word)
 }

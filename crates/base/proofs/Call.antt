@@ -8,7 +8,7 @@ use mir.Val.{Val}
 use base.Logic.{ent, via, snd∗}
 use types.Logic.{Logic, sem}
 use contract.Lifetimes.{Lfts, Shares}
-use contract.Monad.{fact, fact_i, fact_mono}
+use contract.Monad.{fact, fact_mono}
 use denote.RattleType.{Valss, owns}
 use denote.Signature.{types_at}
 use denote.Triple.Clauses.{AtExit}

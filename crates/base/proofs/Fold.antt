@@ -1,13 +1,22 @@
--- The laws by which a loop meets `up_to`: where it begins, one iteration more, where it ends. And what a test over every index, or
--- over some index, says of one index.
-use Prim.Native.Nat.{ℕ, zero, suc, ◌+◌, ◌<◌}
+-- The laws by which a loop meets `up_to`: where it begins, one iteration more, where it ends. What a test over every index, or
+-- over some index, says of one index. And what a chain over a list, or over the numbers below n, computes, in these words.
+use Prim.Native.Nat.{ℕ, zero, suc, ◌+◌, ◌<◌, ◌≤◌}
 use native.Mathlib.Decide.{dec_lt}
+use native.Mathlib.Nat.{zero-add}
 use native.Mathlib.Numerals.{add-one}
 use native.Mathlib.Omega.{arith}
-use mathlib.Core.Bool.{Bool, true, false, ◌||◌, false≢true}
-use mathlib.Core.Path.{◌≡◌, ◌∙◌, refl, ap, subst}
+use mathlib.Core.Bool.{Bool, true, false, ◌&&◌, ◌||◌, false≢true, and_comm, or_comm}
+use mathlib.Core.List.{List}
+use mathlib.Core.Path.{◌≡◌, ◌∙◌, refl, ap, subst, sym}
 use lib.Dec.{eqb}
+use lib.ListN.{length, get_or, take}
+use lib.Seq.{take_all, length-take-le}
 use borrow.Author.Tests.{eqb-true, eqb-false}
+use Rattle.std.specs.List.{list_any, list_all, fold, range_with_len, enumerate_from}
+use Rattle.std.proofs.lemmas.List.{get_or-take, take-take}
+use Rattle.std.proofs.lemmas.List.Folds.{list_any_more, list_all_more}
+use Rattle.std.proofs.lemmas.List.FromFn.{length-range_with_len, get_or-range_with_len, length-enumerate_from, get_or-enumerate_from}
+use Rattle.std.proofs.lemmas.List.Sums.{fold_more}
 use Rattle.base.specs.Fold.{up_to, all_below, any_below, all_pairs, any_pair}
 use Rattle.base.proofs.logic.Laws.{and_left, and_right, and_both, or_left, or_right, or_none, or_either}
 
@@ -118,3 +127,134 @@ module _ (test : ℕ → ℕ → Bool) (n : ℕ) where
 
   pub any_pair_none : (i j : ℕ) → any_pair test n ≡ false → i < n → j < i → test i j ≡ false
   any_pair_none i j none below before = any_none (test i) i j (any_none (λ (k : ℕ). any_below (test k) k) n i none below) before
+
+-- a fold over the first n of a list; a `sum_by` is one
+module _ {A B : Type 0} (f : B → A → B) (a : B) where
+  pub up_to-list : (xs : List A) (d : A) (n : ℕ) → n ≤ length xs → fold f a (take n xs) ≡ up_to (λ (i : ℕ) (x : B). f x (get_or xs i d)) n a
+  unfolding up_to
+  up_to-list xs d zero fits = refl
+  up_to-list xs d (suc n) fits =
+      ap (λ (m : ℕ). fold f a (take m xs)) (sym (add-one n))
+      ∙ fold_more f a xs n d (omega arith)
+      ∙ ap (λ (x : B). f x (get_or xs n d)) (up_to-list xs d n (omega arith))
+
+-- the numbers below n as a list
+module _ (n : ℕ) where
+  all_below_n : take n (range_with_len 0 n) ≡ range_with_len 0 n
+  all_below_n = take_all n _ (omega (arith, length-range_with_len 0 n))
+
+  at_below_n : (i : ℕ) → i < n → get_or (range_with_len 0 n) i 0 ≡ i
+  at_below_n i below = get_or-range_with_len 0 n i 0 below ∙ zero-add i
+
+  below_n_fits : n ≤ length (range_with_len 0 n)
+  below_n_fits = omega (arith, length-range_with_len 0 n)
+
+  -- a fold over them
+  pub up_to-range : {B : Type 0} (f : B → ℕ → B) (a : B) → fold f a (range_with_len 0 n) ≡ up_to (λ (i : ℕ) (x : B). f x i) n a
+  up_to-range {B} f a =
+      ap (fold f a) (sym all_below_n)
+      ∙ up_to-list f a (range_with_len 0 n) 0 n below_n_fits
+      ∙ up_same _ (λ (i : ℕ) (x : B). f x i) n (λ i x below. ap (f x) (at_below_n i below)) a
+
+-- a test of each of the first n of a list, and of some
+module _ {A : Type 0} (p : A → Bool) (xs : List A) (d : A) where
+  pub any_below-list : (n : ℕ) → n ≤ length xs → list_any p (take n xs) ≡ any_below (λ (i : ℕ). p (get_or xs i d)) n
+  unfolding up_to
+  any_below-list zero fits = refl
+  any_below-list (suc n) fits =
+      ap (λ (m : ℕ). list_any p (take m xs)) (sym (add-one n))
+      ∙ list_any_more p xs n d (omega arith)
+      ∙ or_comm (list_any p (take n xs)) (p (get_or xs n d))
+      ∙ ap (λ (found : Bool). p (get_or xs n d) || found) (any_below-list n (omega arith))
+
+  pub all_below-list : (n : ℕ) → n ≤ length xs → list_all p (take n xs) ≡ all_below (λ (i : ℕ). p (get_or xs i d)) n
+  unfolding up_to
+  all_below-list zero fits = refl
+  all_below-list (suc n) fits =
+      ap (λ (m : ℕ). list_all p (take m xs)) (sym (add-one n))
+      ∙ list_all_more p xs n d (omega arith)
+      ∙ and_comm (list_all p (take n xs)) (p (get_or xs n d))
+      ∙ ap (λ (ok : Bool). p (get_or xs n d) && ok) (all_below-list n (omega arith))
+
+  -- of the whole list
+  pub any_below-whole : list_any p xs ≡ any_below (λ (i : ℕ). p (get_or xs i d)) (length xs)
+  any_below-whole = ap (list_any p) (sym (take_all (length xs) xs (omega arith))) ∙ any_below-list (length xs) (omega arith)
+
+  pub all_below-whole : list_all p xs ≡ all_below (λ (i : ℕ). p (get_or xs i d)) (length xs)
+  all_below-whole = ap (list_all p) (sym (take_all (length xs) xs (omega arith))) ∙ all_below-list (length xs) (omega arith)
+
+-- of the numbers below n
+module _ (test : ℕ → Bool) (n : ℕ) where
+  pub any_below-range : list_any test (range_with_len 0 n) ≡ any_below test n
+  any_below-range =
+      ap (list_any test) (sym (all_below_n n))
+      ∙ any_below-list test (range_with_len 0 n) 0 n (below_n_fits n)
+      ∙ up_same _ (λ (i : ℕ) (found : Bool). test i || found) n (λ i found below. ap (λ (k : ℕ). test k || found) (at_below_n n i below)) false
+
+  pub all_below-range : list_all test (range_with_len 0 n) ≡ all_below test n
+  all_below-range =
+      ap (list_all test) (sym (all_below_n n))
+      ∙ all_below-list test (range_with_len 0 n) 0 n (below_n_fits n)
+      ∙ up_same _ (λ (i : ℕ) (ok : Bool). test i && ok) n (λ i ok below. ap (λ (k : ℕ). test k && ok) (at_below_n n i below)) true
+
+-- of the first n of a list, each with its place
+module _ {A : Type 0} (p : ℕ × A → Bool) (xs : List A) (d : A) (n : ℕ) (fits : n ≤ length xs) where
+  first : List A
+  first = take n xs
+
+  numbered : List (ℕ × A)
+  unfolding first
+  numbered = enumerate_from 0 first
+
+  all_numbered : take n numbered ≡ numbered
+  unfolding numbered first
+  all_numbered = take_all n _ (omega (arith, length-enumerate_from 0 first, length-take-le n xs fits))
+
+  numbered_fits : n ≤ length numbered
+  unfolding numbered first
+  numbered_fits = omega (arith, length-enumerate_from 0 first, length-take-le n xs fits)
+
+  at_number : (i : ℕ) → i < n → get_or numbered i (0, d) ≡ (i, get_or xs i d)
+  unfolding numbered first
+  at_number i below =
+      let inside : i < length first = omega (arith, length-take-le n xs fits) in
+      get_or-enumerate_from 0 first i (0, d) inside
+      ∙ ap (λ (k : ℕ). (k, get_or first i d)) (zero-add i)
+      ∙ ap (λ (x : A). (i, x)) (get_or-take n xs i d below)
+
+  pub any_below-enumerate : list_any p (enumerate_from 0 (take n xs)) ≡ any_below (λ (i : ℕ). p (i, get_or xs i d)) n
+  unfolding numbered first
+  any_below-enumerate =
+      ap (list_any p) (sym all_numbered)
+      ∙ any_below-list p numbered (0, d) n numbered_fits
+      ∙ up_same _ (λ (i : ℕ) (found : Bool). p (i, get_or xs i d) || found) n (λ i found below. ap (λ (q : ℕ × A). p q || found) (at_number i below)) false
+
+  pub all_below-enumerate : list_all p (enumerate_from 0 (take n xs)) ≡ all_below (λ (i : ℕ). p (i, get_or xs i d)) n
+  unfolding numbered first
+  all_below-enumerate =
+      ap (list_all p) (sym all_numbered)
+      ∙ all_below-list p numbered (0, d) n numbered_fits
+      ∙ up_same _ (λ (i : ℕ) (ok : Bool). p (i, get_or xs i d) && ok) n (λ i ok below. ap (λ (q : ℕ × A). p q && ok) (at_number i below)) true
+
+-- of each two of the first n of a list, the later one first, and of some two
+module _ {A : Type 0} (test : A → A → Bool) (xs : List A) (d : A) (n : ℕ) (fits : n ≤ length xs) where
+  pub any_pair-list : list_any (λ (q : ℕ × A). list_any (test q.1) (take q.0 xs)) (enumerate_from 0 (take n xs)) ≡ any_pair (λ (i j : ℕ). test (get_or xs i d) (get_or xs j d)) n
+  any_pair-list =
+      any_below-enumerate _ xs d n fits
+      ∙ up_same _ (λ (i : ℕ) (found : Bool). any_below (λ (j : ℕ). test (get_or xs i d) (get_or xs j d)) i || found) n
+      (λ i found below. ap (λ (some : Bool). some || found) (any_below-list (test (get_or xs i d)) xs d i (omega arith))) false
+
+  pub all_pairs-list : list_all (λ (q : ℕ × A). list_all (test q.1) (take q.0 xs)) (enumerate_from 0 (take n xs)) ≡ all_pairs (λ (i j : ℕ). test (get_or xs i d) (get_or xs j d)) n
+  all_pairs-list =
+      all_below-enumerate _ xs d n fits
+      ∙ up_same _ (λ (i : ℕ) (ok : Bool). all_below (λ (j : ℕ). test (get_or xs i d) (get_or xs j d)) i && ok) n
+      (λ i ok below. ap (λ (each : Bool). each && ok) (all_below-list (test (get_or xs i d)) xs d i (omega arith))) true
+
+  -- where the first n are a slice of their own
+  pub any_pair-slice : list_any (λ (q : ℕ × A). list_any (test q.1) (take q.0 (take n xs))) (enumerate_from 0 (take n xs)) ≡ any_pair (λ (i j : ℕ). test (get_or xs i d) (get_or xs j d)) n
+  any_pair-slice =
+      any_below-enumerate _ xs d n fits
+      ∙ up_same _ (λ (i : ℕ) (found : Bool). any_below (λ (j : ℕ). test (get_or xs i d) (get_or xs j d)) i || found) n
+      (λ i found below.
+      ap (λ (some : Bool). some || found)
+      (ap (list_any (test (get_or xs i d))) (take-take i n xs (omega arith)) ∙ any_below-list (test (get_or xs i d)) xs d i (omega arith))) false

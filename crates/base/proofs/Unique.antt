@@ -14,6 +14,8 @@ use Rattle.base.proofs.logic.and.Kinds as and_kinds
 use Rattle.base.proofs.logic.and.Reads as and_reads
 use Rattle.base.proofs.logic.or.Kinds as or_kinds
 use Rattle.base.proofs.logic.or.Reads as or_reads
+use Rattle.base.proofs.share.put.Kinds as put_kinds
+use Rattle.base.proofs.share.put.Reads as put_reads
 use Rattle.base.proofs.word.word_of.Kinds as word_of_kinds
 use Rattle.base.proofs.word.word_of.Reads as word_of_reads
 
@@ -51,3 +53,6 @@ or_unique κs args x y at_x at_y = same
 
 pub word_of_unique : Unique word_of_kinds.ps word_of_kinds.r word_of_reads.Post
 word_of_unique κs args x y at_x at_y = same
+
+pub put_unique : UniqueOutcome put_kinds.ps put_kinds.r (List ℕ) (λ κs result at. at.1.1.0.now) put_reads.Post
+put_unique κs args x y at_x at_y = same

@@ -4,4 +4,5 @@
 pub mod bit;
 pub mod logic;
 pub mod number;
+pub mod share;
 pub mod word;

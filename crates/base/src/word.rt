@@ -8,5 +8,5 @@ pub const BYTE: u16 = 256;
 pub fn word_of(high: u8, low: u8) -> u16
     ensures { result ≡ word_of high low }
 {
-    (high as u16) * BYTE + (low as u16)
+    u16::from_be_bytes([high, low])
 }

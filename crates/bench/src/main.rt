@@ -8,17 +8,19 @@ mod block;
 mod telling;
 mod tracing;
 
-use arguments::{Words, read_arguments, tell_status, tell_words};
-use block::{Block, close, next_block, read_block};
-use bus::Bus;
+use arguments::{Arguments, tell_fault, tell_status};
+use block::{close, next_block, read_block};
+use bus::{Bus, SetUp};
 use conversation::converse;
+use conversation::tape::text_on;
 use errands::telling::{tell_failure, tell_refusal};
-use errands::{Ending, blank_text};
+use errands::{Errands, Undone, blank_text};
 use factory::{erased_arrays, erased_registers, mark_serials};
 use placing::layout::Board;
 use print::PRINTED_BYTES;
-use refusal::{Refusal, Verdict, number_of};
-use status::{Status, greatest};
+use refusal::Refusal;
+use status::Status;
+use std::ops::ControlFlow;
 use transcript::frame::FRAME_BYTES;
 
 // A block of text, and room for the answers to its lines and for the line that ends a run.
@@ -26,7 +28,7 @@ const TAPE: usize = 20_480;
 
 const SAID: usize = TAPE / FRAME_BYTES * PRINTED_BYTES + PRINTED_BYTES;
 
-// The state stands here from the first block to the last, which is answered.
+// The state stands here from the first block to the last, which is answered. Nothing says that input ends, so the blocks are counted.
 fn answer_input(
     rt: &HostRuntime,
     bus: Bus,
@@ -34,15 +36,21 @@ fn answer_input(
     security: &mut [u8],
     tape: &mut [u8],
     said: &mut [u8],
-) -> Block {
+) -> Status {
     let mut held = bus;
-    let mut block = read_block(rt, tape, 0, u64::MAX, 0);
-    while block.more {
-        let before = held;
-        let heard = converse(&mut held, array, security, tape, block.filled, said);
-        block = next_block(rt, block, heard, before, held, tape, said);
+    let mut next = read_block(rt, tape, 0, 0);
+    'blocks: for _ in 0..u64::MAX {
+        match next {
+            ControlFlow::Break(status) => return status,
+            ControlFlow::Continue(block) => {
+                let before = held;
+                let text = text_on(tape, block.filled);
+                let heard = converse(&mut held, array, security, text, said);
+                next = next_block(rt, block, heard, before, held, tape, said);
+            }
+        }
     }
-    block
+    Status::Broken
 }
 
 // A traced run has a tape for one line, and room for one answer.
@@ -56,16 +64,16 @@ fn play_input(
     if traced {
         let mut tape = [0u8; FRAME_BYTES];
         let mut said = [0u8; PRINTED_BYTES];
-        return answer_input(rt, bus, array, security, &mut tape, &mut said).status;
+        return answer_input(rt, bus, array, security, &mut tape, &mut said);
     }
     let mut tape = [0u8; TAPE];
     let mut said = [0u8; SAID];
-    answer_input(rt, bus, array, security, &mut tape, &mut said).status
+    answer_input(rt, bus, array, security, &mut tape, &mut said)
 }
 
 // Nothing is played.
 fn refused(rt: &HostRuntime, traced: bool, refusal: Refusal) -> Status {
-    match close(rt, traced, number_of(refusal)) {
+    match close(rt, traced, u8::from(refusal)) {
         Ok(()) => Status::Refused,
         Err(error) => {
             tell_failure(rt, b"standard output", error);
@@ -84,10 +92,17 @@ fn finish(
     security: &[u8],
     text: &mut [u8],
 ) -> Status {
-    match status {
-        Status::Broken => Status::Broken,
-        _ => greatest(status, errands::finish(rt, bus, array, security, text)),
+    if status == Status::Broken {
+        return status;
     }
+    let mut errands = Errands {
+        rt,
+        bus,
+        array,
+        security,
+        text,
+    };
+    status.max(errands.finish())
 }
 
 // Loads, answers what comes, shows and saves.
@@ -99,11 +114,17 @@ fn play(
     security: &mut [u8],
     text: &mut [u8],
 ) -> Status {
-    let ending = errands::begin(rt, bus, array, security, text);
-    match ending {
-        Ending::Failed => Status::Broken,
-        Ending::Refused(refusal) => refused(rt, traced, refusal),
-        Ending::Done => {
+    let mut errands = Errands {
+        rt,
+        bus,
+        array: &mut *array,
+        security,
+        text: &mut *text,
+    };
+    match errands.begin() {
+        Err(Undone::Failed) => Status::Broken,
+        Err(Undone::Refused(refusal)) => refused(rt, traced, refusal),
+        Ok(()) => {
             let status = play_input(rt, traced, bus, array, security);
             finish(rt, status, bus, array, security, text)
         }
@@ -119,21 +140,18 @@ fn serve(
     security: &mut [u8],
     text: &mut [u8],
 ) -> Status {
-    let count = board.count;
-    let places = board.places;
-    mark_serials(count, places, security);
-    let set_up = Bus::set_up(count, places, array, security);
-    let verdict = set_up.verdict;
+    mark_serials(board.count, board.places, security);
+    let SetUp { bus, verdict } = Bus::set_up(board.count, board.places, array, security);
     match verdict {
-        Verdict::Refused(refusal) => {
+        Err(refusal) => {
             tell_refusal(rt, b"board", 0, refusal);
             refused(rt, traced, refusal)
         }
-        Verdict::Passed => play(rt, traced, set_up.bus, array, security, text),
+        Ok(()) => play(rt, traced, bus, array, security, text),
     }
 }
 
-// Lends the board memories of its size.
+// Lends the board memories of its size. Apart from `start`: beside the arrays themselves, their bounds were not proved (out of stack).
 fn fit(
     rt: &HostRuntime,
     traced: bool,
@@ -148,8 +166,8 @@ fn fit(
         rt,
         traced,
         board,
-        &mut array[0..array_end],
-        &mut security[0..security_end],
+        &mut array[..array_end],
+        &mut security[..security_end],
         text,
     )
 }
@@ -163,12 +181,13 @@ fn start(rt: &HostRuntime, traced: bool, board: Board) -> Status {
 }
 
 fn main(rt: HostRuntime) {
-    let arguments = read_arguments(&rt);
-    let words = arguments.words;
-    let board = arguments.board;
-    let told = arguments.told;
-    match words {
-        Words::Known => tell_status(&rt, told, start(&rt, arguments.traced, board)),
-        _ => tell_status(&rt, told, tell_words(&rt, words)),
-    }
+    let mut arguments = Arguments::none();
+    let status = match arguments.read(&rt) {
+        Ok(()) => start(&rt, arguments.traced, arguments.board.or_paper()),
+        Err(fault) => {
+            tell_fault(&rt, fault);
+            Status::NoWord
+        }
+    };
+    tell_status(&rt, arguments.told, status);
 }

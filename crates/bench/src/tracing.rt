@@ -1,7 +1,4 @@
 // A trace: each answer with its words, on its line. A block is one line then, so that the state is known before and after it.
-ghost use Rattle.std.specs.Prelude.{◌<◌};
-
-use base::word::word_of;
 use bus::Bus;
 use print::PRINTED_BYTES;
 use std::io::Result;
@@ -13,9 +10,11 @@ use transcript::frame::{FRAME_BYTES, LF};
 // An answer's digits, the event's first; the words stand after them and two blanks.
 const ANSWER: usize = PRINTED_BYTES - 1;
 
-const EVENT: usize = 0;
+// Where the event's digits end.
+const EVENT: usize = 4;
 
-const RESULT: usize = 4;
+// How many words have a digit less.
+const SHORTER: u16 = 0x1000;
 
 const GAP: usize = 2;
 
@@ -26,29 +25,11 @@ pub fn is_traced(tape: &[u8]) -> bool {
     tape.len() == FRAME_BYTES
 }
 
-// The value of a digit that was printed.
-fn value_of(text: &[u8], at: usize) -> u16
-    ensures { result < 16 }
-{
-    if text.len() <= at {
-        return 0;
-    }
-    (digit_of(text[at]) % DIGITS) as u16
-}
-
-fn byte_of(high: u16, low: u16) -> u8
-    requires { (high < 16) × (low < 16) }
-{
-    (high * (DIGITS as u16) + low) as u8
-}
-
-// Four digits that were printed, from one of the two places that such digits have.
-fn word_at(text: &[u8], at: usize) -> u16
-    requires { at < 5 }
-{
-    word_of(
-        byte_of(value_of(text, at), value_of(text, at + 1)),
-        byte_of(value_of(text, at + 2), value_of(text, at + 3)),
+// The word of the digits that were printed.
+fn word_of(digits: &[u8]) -> u16 {
+    digits.iter().fold(
+        0,
+        |word, digit| word % SHORTER * DIGITS as u16 + (digit_of(*digit) % DIGITS) as u16,
     )
 }
 
@@ -62,7 +43,7 @@ fn write_line(rt: &HostRuntime, line: &mut [u8], end: usize) -> Result<()> {
         return Ok(());
     }
     line[end] = LF;
-    write(rt, &line[0..end + 1])
+    write(rt, &line[..end + 1])
 }
 
 // An answer and its words, on a line that has room for them.
@@ -73,15 +54,12 @@ fn write_on_line(
     answer: &[u8],
     line: &mut [u8],
 ) -> Result<()> {
-    if answer.len() < ANSWER {
+    if answer.len() < ANSWER || line.len() < LINE {
         return Ok(());
     }
-    if line.len() < LINE {
-        return Ok(());
-    }
-    line[0..ANSWER].copy_from_slice(&answer[0..ANSWER]);
-    let event = word_at(answer, EVENT);
-    let result = word_at(answer, RESULT);
+    line[..ANSWER].copy_from_slice(&answer[..ANSWER]);
+    let event = word_of(&answer[..EVENT]);
+    let result = word_of(&answer[EVENT..ANSWER]);
     let room = &mut line[ANSWER + GAP..LINE - 1];
     let n = words(before, after, event, result, room);
     write_line(rt, line, ANSWER + GAP + n)
@@ -92,7 +70,7 @@ pub fn write_closing(rt: &HostRuntime, closing: &[u8], words: &[u8]) -> Result<(
     if closing.len() < ANSWER {
         return Ok(());
     }
-    write(rt, &closing[0..ANSWER])?;
+    write(rt, &closing[..ANSWER])?;
     write(rt, words)
 }
 

@@ -1,5 +1,5 @@
 -- A count fills at most four places, and one that set-up lets through as many as it says. Shares stand end to end, so each ends before
--- the next starts. And sharing an address byte goes both ways.
+-- the next starts. Sharing an address byte goes both ways. And what a chain over the filled places computes, by their places.
 use Prim.Native.Nat.{ℕ, zero, suc, ◌+◌, ◌*◌, ◌^◌, ◌<◌, ◌≤◌}
 use native.Mathlib.Decide.{dec_lt}
 use native.Mathlib.Omega.{arith}
@@ -8,18 +8,19 @@ use mathlib.Core.List.{List}
 use mathlib.Core.Path.{◌≡◌}
 use lib.Dec.{ltb, leb}
 use borrow.Author.Tests.{leb-true, not-false}
-use Rattle.base.specs.Fold.{up_to}
+use lib.ListN.{length, take}
+use Rattle.std.specs.List.{list_any}
+use Rattle.base.specs.Fold.{up_to, any_below, any_pair}
+use Rattle.base.proofs.Fold.{up_to-list, any_below-list, any_pair-slice}
 use Rattle.base.proofs.logic.Laws.{and_left, and_right}
 use Rattle.base.proofs.number.Laws.{least_first, least_most}
 use Rattle.parts.specs.Address.{codes_of, first_code}
 use Rattle.parts.specs.Part.{geometry_of}
-use Rattle.parts.proofs.part.Laws.{sound_of}
 use Rattle.board.specs.declared.Place.{Place}
-use Rattle.board.specs.Place.{place_at, placed}
-use Rattle.board.specs.Board.{wrong_count, shared_address}
+use Rattle.board.specs.Place.{nowhere, place_at, placed}
+use Rattle.board.specs.Board.{wrong_count, is_unknown, unknown_part, is_outside, strap_outside, match_alike, some_alike, shared_address}
 use Rattle.board.specs.declared.shares.Region.{Region}
-use Rattle.board.specs.declared.shares.Region.TheVariants.{Array, Security}
-use Rattle.board.specs.Shares.{figures_at, size_in}
+use Rattle.board.specs.Shares.{figures_at, size_in, sizes_of, start_in}
 
 pub placed_most : (count : ℕ) → placed count ≤ 4
 placed_most count = (least_most count 4).1
@@ -31,11 +32,6 @@ right_count count right =
 
 pub placed_all : (count : ℕ) → wrong_count count ≡ false → placed count ≡ count
 placed_all count right = least_first count 4 (right_count count right).1
-
--- every share is small
-pub size_most : (region : Region) (part : ℕ) {size : ℕ} → size ≡ size_in region (geometry_of part) → size ≤ 2 ^ 24
-size_most Array part is = omega (arith, is, (sound_of part).array_most)
-size_most Security part is = omega (arith, is, (sound_of part).security_most)
 
 -- a sum of shares, over any figure of the parts
 abbrev pub start_of : (ℕ → ℕ) → ℕ → ℕ
@@ -63,3 +59,26 @@ shared_sym places i j = and_comm (starts_before i j) (starts_before j i)
     starts_before : ℕ → ℕ → Bool
     starts_before i j =
         ltb (first_code (figures_at places i) (place_at places i).strap) (first_code (figures_at places j) (place_at places j).strap + codes_of (figures_at places j))
+
+-- what set-up asks of the chips as a list, by their places
+module _ (count : ℕ) (places : List Place) (four : length places ≡ 4) where
+  fits : placed count ≤ length places
+  fits = omega (arith, placed_most count, four)
+
+  pub unknown_chips : list_any is_unknown (take (placed count) places) ≡ any_below (unknown_part places) (placed count)
+  unknown_chips = any_below-list is_unknown places nowhere (placed count) fits
+
+  pub outside_chips : list_any is_outside (take (placed count) places) ≡ any_below (strap_outside places) (placed count)
+  outside_chips = any_below-list is_outside places nowhere (placed count) fits
+
+  pub alike_chips : some_alike (take (placed count) places) ≡ any_pair (shared_address places) (placed count)
+  unfolding some_alike
+  alike_chips = any_pair-slice match_alike places nowhere (placed count) fits
+
+  -- what their shares come to is where the next one starts
+  pub sizes_start : (region : Region) → sizes_of region (take (placed count) places) ≡ start_in region places (placed count)
+  unfolding sizes_of
+  sizes_start region = up_to-list (λ (at : ℕ) (p : Place). at + size_in region (geometry_of p.part)) 0 places nowhere (placed count) fits
+
+-- what set-up's checks stand on
+pub ruleset of_chips = (placed_most, unknown_chips, outside_chips, alike_chips)

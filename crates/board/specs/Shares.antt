@@ -1,6 +1,6 @@
 -- The array store holds the arrays end to end in chip order; the security store does the same for the security registers (paper,
 -- "The two memories").
-use Rattle.std.specs.Prelude.{ℕ, ◌+◌, Bool, not, ◌||◌, List, eqb}
+use Rattle.std.specs.Prelude.{ℕ, ◌+◌, Bool, not, ◌||◌, List, eqb, sum_by}
 use Rattle.base.specs.Fold.{up_to}
 use Rattle.parts.specs.declared.part.Geometry.{Geometry}
 use Rattle.parts.specs.Part.{geometry_of}
@@ -17,6 +17,10 @@ figures_at places i = geometry_of (place_at places i).part
 abbrev pub size_in : Region → Geometry → ℕ
 size_in Array g = g.array
 size_in Security g = g.security
+
+-- what the shares of these chips come to
+unfoldable pub sizes_of : Region → List Place → ℕ
+sizes_of region chips = sum_by (λ (place : Place). size_in region (geometry_of place.part)) chips
 
 -- where the share starts: behind those of the chips before it
 abbrev pub start_in : Region → List Place → ℕ → ℕ

@@ -3,22 +3,20 @@
 
 pub mod shares;
 
-ghost use Rattle.std.specs.Prelude.{◌≡◌, ◌≤◌, ◌<◌};
-ghost use Rattle.base.specs.Fold.{any_below, any_pair};
+ghost use Rattle.std.specs.Prelude.{◌≡◌};
+ghost use Rattle.std.specs.List.{list_any};
 ghost use Rattle.board.specs.Place.{placed};
-ghost use Rattle.board.specs.Board.{wrong_count, unknown_part, strap_outside, shared_address, board_verdict};
+ghost use Rattle.board.specs.Board.{wrong_count, is_unknown, is_outside, match_alike, some_alike, board_verdict};
 
-use base::logic::{and, or};
-use base::number::least;
 use parts::address::share_address;
 use parts::part::{geometry_of, is_part};
-use refusal::{Refusal, Verdict};
+use refusal::Refusal;
 
 // The most chips that a line has.
 pub const PLACES: usize = 4;
 
 // Raw numbers, since a board may be asked for with any.
-#[derive(Clone, Copy)]
+#[derive(Clone, Copy, Debug, PartialEq, Eq)]
 pub struct Place {
     pub part: u8,
     pub strap: u8,
@@ -28,92 +26,64 @@ pub struct Place {
 pub fn placed(count: usize) -> usize
     ensures { result ≡ placed count }
 {
-    least(count, PLACES)
+    count.min(PLACES)
 }
 
 fn wrong_count(count: usize) -> bool
     ensures { result ≡ wrong_count count }
 {
-    !and(1 <= count, count <= PLACES)
+    !(1..=PLACES).contains(&count)
 }
 
-fn any_unknown_part(n: usize, places: [Place; PLACES]) -> bool
-    requires { n ≤ 4 }
-    ensures { result ≡ any_below (unknown_part places) n }
+fn any_unknown_part(chips: &[Place]) -> bool
+    ensures { result ≡ list_any is_unknown chips.now }
 {
-    let mut found = false;
-    let mut i: usize = 0;
-    while i < n {
-        let place = places[i];
-        found = or(!is_part(place.part), found);
-        i += 1;
-    }
-    found
+    chips.iter().any(|chip| !is_part(chip.part))
 }
 
-fn any_strap_outside(n: usize, places: [Place; PLACES]) -> bool
-    requires { n ≤ 4 }
-    ensures { result ≡ any_below (strap_outside places) n }
+fn any_strap_outside(chips: &[Place]) -> bool
+    ensures { result ≡ list_any is_outside chips.now }
 {
-    let mut found = false;
-    let mut i: usize = 0;
-    while i < n {
-        let place = places[i];
-        let straps = geometry_of(place.part).straps;
-        let inside = place.strap < straps;
-        found = or(!inside, found);
-        i += 1;
-    }
-    found
+    chips
+        .iter()
+        .any(|chip| chip.strap >= geometry_of(chip.part).straps)
 }
 
 // Whether the chip at a place shares an address byte with one before it.
-fn shares_with_earlier(i: usize, places: [Place; PLACES]) -> bool
-    requires { i < 4 }
-    ensures { result ≡ any_below (shared_address places i) i }
+fn shares_with_earlier(chip: Place, earlier: &[Place]) -> bool
+    ensures { result ≡ list_any (match_alike chip) earlier.now }
 {
-    let place = places[i];
-    let mut found = false;
-    let mut j: usize = 0;
-    while j < i {
-        let other = places[j];
-        let shared = share_address(place.part, place.strap, other.part, other.strap);
-        found = or(shared, found);
-        j += 1;
-    }
-    found
+    earlier.iter().any(|other| share_address(chip.part, chip.strap, other.part, other.strap))
 }
 
-fn any_shared_address(n: usize, places: [Place; PLACES]) -> bool
-    requires { n ≤ 4 }
-    ensures { result ≡ any_pair (shared_address places) n }
+#[tactic(auto, unfolding(crate::specs::Board::some_alike))]
+fn any_shared_address(chips: &[Place]) -> bool
+    ensures { result ≡ some_alike chips.now }
 {
-    let mut found = false;
-    let mut i: usize = 0;
-    while i < n {
-        found = or(shares_with_earlier(i, places), found);
-        i += 1;
-    }
-    found
+    chips
+        .iter()
+        .enumerate()
+        .any(|(i, chip)| shares_with_earlier(*chip, &chips[..i]))
 }
 
-// Checks 1 to 4 of set-up, in that order over all chips. Places past the count are ignored.
-#[tactic(auto, unfolding(crate::specs::Board::board_verdict), using(crate::proofs::Laws::placed_most))]
-pub fn board_verdict(count: usize, places: [Place; PLACES]) -> Verdict
+// Checks 1 to 4 of set-up, in that order over all chips. Places past the count are ignored. Count and places are apart, and no struct of the two is
+// asked for: definition and theorems of set-up have them so.
+#[tactic(auto, unfolding(crate::specs::Board::board_verdict), using(crate::proofs::Laws::of_chips))]
+pub fn board_verdict(count: usize, places: [Place; PLACES]) -> Result<(), Refusal>
     ensures { result ≡ board_verdict count places }
 {
-    let n = placed(count);
     if wrong_count(count) {
-        return Verdict::Refused(Refusal::WrongCount);
+        return Err(Refusal::WrongCount);
     }
-    if any_unknown_part(n, places) {
-        return Verdict::Refused(Refusal::UnknownPart);
+    let chips = &places[..placed(count)];
+    if any_unknown_part(chips) {
+        return Err(Refusal::UnknownPart);
     }
-    if any_strap_outside(n, places) {
-        return Verdict::Refused(Refusal::StrapOutside);
+    if any_strap_outside(chips) {
+        return Err(Refusal::StrapOutside);
     }
-    if any_shared_address(n, places) {
-        return Verdict::Refused(Refusal::SharedAddress);
+    if any_shared_address(chips) {
+        return Err(Refusal::SharedAddress);
     }
-    Verdict::Passed
+    Ok(())
 }

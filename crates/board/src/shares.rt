@@ -1,15 +1,14 @@
 // Shares of the two stores: the chips' arrays end to end in chip order, and their security registers likewise.
-ghost use Rattle.std.specs.Prelude.{◌≡◌};
+ghost use Rattle.std.specs.Prelude.{◌≡◌, ◌≤◌, length};
 ghost use Rattle.parts.specs.Part.{geometry_of};
 ghost use Rattle.board.specs.Place.{placed};
-ghost use Rattle.board.specs.Shares.{size_in, start_in, array_start, security_start, wrong_length};
+ghost use Rattle.board.specs.Shares.{size_in, sizes_of, array_start, security_start, wrong_length};
 
 use crate::{PLACES, Place, placed};
-use base::logic::or;
 use parts::part::geometry_of;
 
 // Which of its two regions a chip's share is for.
-#[derive(Clone, Copy)]
+#[derive(Clone, Copy, Debug, PartialEq, Eq)]
 pub enum Region {
     Array,
     Security,
@@ -25,39 +24,36 @@ fn size_in(region: Region, part: u8) -> u32
     }
 }
 
-fn start_in(region: Region, i: usize, places: [Place; PLACES]) -> usize
-    ensures { result ≡ start_in region places (placed i) }
+// What the chips' shares come to.
+#[tactic(auto, unfolding(crate::specs::Shares::sizes_of))]
+fn sizes_of(region: Region, chips: &[Place]) -> usize
+    requires { length chips.now ≤ 4 }
+    ensures { result ≡ sizes_of region chips.now }
 {
-    let n = placed(i);
-    let mut at: usize = 0;
-    let mut j: usize = 0;
-    while j < n {
-        let place = places[j];
-        at += size_in(region, place.part) as usize;
-        j += 1;
-    }
-    at
+    chips
+        .iter()
+        .map(|chip| size_in(region, chip.part) as usize)
+        .sum()
 }
 
-// Where the share of chip i starts, and with the count of chips where the store ends.
+// Where the share of chip i starts, and with the count of chips where the store ends. Two public names over `sizes_of`, one for each store.
+#[tactic(auto, using(crate::proofs::Laws::placed_most, crate::proofs::Laws::sizes_start))]
 pub fn array_start(i: usize, places: [Place; PLACES]) -> usize
     ensures { result ≡ array_start places (placed i) }
 {
-    start_in(Region::Array, i, places)
+    sizes_of(Region::Array, &places[..placed(i)])
 }
 
+#[tactic(auto, using(crate::proofs::Laws::placed_most, crate::proofs::Laws::sizes_start))]
 pub fn security_start(i: usize, places: [Place; PLACES]) -> usize
     ensures { result ≡ security_start places (placed i) }
 {
-    start_in(Region::Security, i, places)
+    sizes_of(Region::Security, &places[..placed(i)])
 }
 
 // Check 5: the array store, then the security store.
 pub fn wrong_length(count: usize, places: [Place; PLACES], array: usize, security: usize) -> bool
     ensures { result ≡ wrong_length count places array security }
 {
-    or(
-        array != array_start(count, places),
-        security != security_start(count, places),
-    )
+    array != array_start(count, places) || security != security_start(count, places)
 }

@@ -9,10 +9,11 @@ use lib.Dec.{eqb}
 use lib.ListN.{length}
 use borrow.Author.Tests.{eqb-true, leb-false, not-false}
 use Rattle.base.proofs.logic.Laws.{and_left, or_none}
-use Rattle.refusal.specs.declared.Verdict.{Verdict}
-use Rattle.refusal.specs.declared.Verdict.TheVariants.{Passed, Refused}
+use Rattle.refusal.specs.Verdict.{Verdict}
+use Rattle.std.specs.Prelude.{Ok, Err}
 use Rattle.refusal.specs.Refusal.{status_of}
-use Rattle.refusal.specs.Checks.{first_of, is_passed}
+use Rattle.refusal.specs.Checks.{first_of}
+use Rattle.std.specs.Result.{is_ok}
 use Rattle.refusal.proofs.Checks.{Checks, passed_exactly_when, refused_first, passed_first}
 use Rattle.board.specs.Stores.{WithStores}
 use Rattle.board.specs.Place.{placed}
@@ -25,9 +26,9 @@ use Rattle.bus.specs.declared.Bus.{Bus}
 use Rattle.bus.specs.declared.Stepped.{Stepped}
 use Rattle.bus.specs.Step.{entry_checks, chip_checks, event_checks, step_checks, step_by, event, step_given, step}
 
-pub passed : (verdict : Verdict) → is_passed verdict ≡ true → verdict ≡ Passed
-passed Passed is = refl
-passed (Refused refusal) is = absurd (false≢true is)
+pub passed : (verdict : Verdict) → is_ok verdict ≡ true → verdict ≡ Ok tt
+passed (Ok tt) is = refl
+passed (Err refusal) is = absurd (false≢true is)
 
 pub record Entered (bus : Bus) (array security : List ℕ) : Type 0 where
   pub formed : well_formed bus.count bus.started bus.chips ≡ true
@@ -41,10 +42,10 @@ pub record Entered (bus : Bus) (array security : List ℕ) : Type 0 where
 pub counted : (bus : Bus) → well_formed bus.count bus.started bus.chips ≡ true → wrong_count bus.count ≡ false
 unfolding well_formed board_verdict
 counted bus formed =
-    let board : first_of (board_checks bus.count (places_of bus.chips)) ≡ Passed = passed _ (and_left _ _ formed) in
+    let board : first_of (board_checks bus.count (places_of bus.chips)) ≡ Ok tt = passed _ (and_left _ _ formed) in
     ((passed_exactly_when (board_checks bus.count (places_of bus.chips))).0 (ap status_of board)).0
 
-pub entered : (bus : Bus) (array security : List ℕ) → first_of (entry_checks bus array security) ≡ Passed → Entered bus array security
+pub entered : (bus : Bus) (array security : List ℕ) → first_of (entry_checks bus array security) ≡ Ok tt → Entered bus array security
 entered bus array security enters =
     let none = (passed_exactly_when (entry_checks bus array security)).0 (ap status_of enters) in
     let formed : well_formed bus.count bus.started bus.chips ≡ true = not-false _ none.0 in
@@ -66,7 +67,7 @@ pub record Named (bus : Bus) (array security : List ℕ) (chip : ℕ) : Type 0 w
   pub chip_below : chip < 4
   pub share_fits : array_start (places_of bus.chips) chip + (figures_at (places_of bus.chips) chip).array ≤ length array
 
-pub named : (bus : Bus) (array security : List ℕ) (chip : ℕ) → first_of (chip_checks bus array security chip) ≡ Passed → Named bus array security chip
+pub named : (bus : Bus) (array security : List ℕ) (chip : ℕ) → first_of (chip_checks bus array security chip) ≡ Ok tt → Named bus array security chip
 named bus array security chip passes =
     let none = (passed_exactly_when (chip_checks bus array security chip)).0 (ap status_of passes) in
     let enters = entered bus array security (rw (none.0, none.1.0)) in
@@ -95,5 +96,5 @@ step_by_checks bus array security word = go (first_of entry) refl
     by verdict = step_by verdict bus array security word
 
     go : (verdict : Verdict) → first_of entry ≡ verdict → step_given verdict bus array security word ≡ by (first_of (entry ++ event_checks bus word))
-    go Passed is = ap by (sym (passed_first entry (event_checks bus word) is))
-    go (Refused refusal) is = ap by (sym (refused_first entry (event_checks bus word) refusal is))
+    go (Ok tt) is = ap by (sym (passed_first entry (event_checks bus word) is))
+    go (Err refusal) is = ap by (sym (refused_first entry (event_checks bus word) refusal is))

@@ -4,7 +4,8 @@ use Rattle.base.proofs.Unique.{Unique, UniqueOutcome, same}
 use Prim.Native.Nat.{ℕ}
 use mathlib.Core.List.{List}
 use Rattle.bus.specs.declared.Stepped.{Stepped}
-use Rattle.refusal.specs.declared.Verdict.{Verdict}
+use Rattle.refusal.specs.Verdict.{Verdict}
+use Rattle.bus.specs.Step.{answered}
 use Rattle.bus.specs.Run.{Progress, outcome}
 use Rattle.bus.proofs.Bus.empty.Kinds as empty_kinds
 use Rattle.bus.proofs.Bus.empty.Reads as empty_reads
@@ -20,6 +21,8 @@ use Rattle.bus.proofs.Bus.step.Kinds as step_kinds
 use Rattle.bus.proofs.Bus.step.Reads as step_reads
 use Rattle.bus.proofs.Bus.step_given.Kinds as step_given_kinds
 use Rattle.bus.proofs.Bus.step_given.Reads as step_given_reads
+use Rattle.bus.proofs.Bus.step_lent.Kinds as step_lent_kinds
+use Rattle.bus.proofs.Bus.step_lent.Reads as step_lent_reads
 use Rattle.bus.proofs.Bus.run.Kinds as run_kinds
 use Rattle.bus.proofs.Bus.run.Reads as run_reads
 
@@ -43,6 +46,9 @@ step_unique κs args x y at_x at_y = same
 
 pub step_given_unique : UniqueOutcome step_given_kinds.ps step_given_kinds.r (Stepped × List ℕ × List ℕ) (λ κs result at. (result, at.1.1.0.now, at.1.1.1.0.now)) step_given_reads.Post
 step_given_unique κs args x y at_x at_y = same
+
+pub step_lent_unique : UniqueOutcome step_lent_kinds.ps step_lent_kinds.r (Stepped × List ℕ × List ℕ) (λ κs result at. (answered at.0.now result, at.1.1.0.now, at.1.1.1.0.now)) step_lent_reads.Post
+step_lent_unique κs args x y at_x at_y = same
 
 pub run_unique : UniqueOutcome run_kinds.ps run_kinds.r (Verdict × Progress) (λ κs result at. outcome result at.1.0.now at.1.1.0.now at.1.1.1.1.0.now) run_reads.Post
 run_unique κs args x y at_x at_y = same

@@ -3,8 +3,8 @@ use Rattle.std.specs.Prelude.{ℕ, Bool, List, ◌∷◌, ltb, length, get_or, s
 use Rattle.base.specs.Fold.{up_to}
 use Rattle.refusal.specs.declared.Refusal.{Refusal}
 use Rattle.refusal.specs.declared.Refusal.TheVariants.{ShortBuffer}
-use Rattle.refusal.specs.declared.Verdict.{Verdict}
-use Rattle.refusal.specs.declared.Verdict.TheVariants.{Passed, Refused}
+use Rattle.refusal.specs.Verdict.{Verdict}
+use Rattle.std.specs.Prelude.{Ok, Err}
 use Rattle.refusal.specs.Refusal.{answer_word}
 use Rattle.refusal.specs.Checks.{first_of}
 use Rattle.board.specs.Stores.{WithStores, array_of, security_of}
@@ -34,8 +34,8 @@ run_up_to events n progress = up_to (run_event events) n progress
 
 -- a refused run returns the state it was given; answers past the list stay
 abbrev pub run_by : Verdict → List ℕ → Progress → Verdict × Progress
-run_by Passed events progress = (Passed, run_up_to events (length events) progress)
-run_by (Refused refusal) events progress = (Refused refusal, progress)
+run_by (Ok tt) events progress = ((Ok tt), run_up_to events (length events) progress)
+run_by (Err refusal) events progress = (Err refusal, progress)
 
 unfoldable pub run : Bus → List ℕ → List ℕ → List ℕ → List ℕ → Verdict × Progress
 run bus array security events answers =

@@ -6,8 +6,8 @@ use Rattle.chip.specs.declared.Chip.{Chip}
 use Rattle.chip.specs.Chip as chip
 use Rattle.refusal.specs.declared.Refusal.{Refusal}
 use Rattle.refusal.specs.declared.Refusal.TheVariants.{WrongLength}
-use Rattle.refusal.specs.declared.Verdict.{Verdict}
-use Rattle.refusal.specs.declared.Verdict.TheVariants.{Passed, Refused}
+use Rattle.refusal.specs.Verdict.{Verdict}
+use Rattle.std.specs.Prelude.{Ok, Err}
 use Rattle.refusal.specs.Checks.{first_of}
 use Rattle.board.specs.declared.Place.{Place}
 use Rattle.board.specs.Place.{place_at, placed}
@@ -38,8 +38,8 @@ fresh_bus count places = record { count = count; started = false; chips = fresh_
 
 -- a refused set-up returns the empty state beside its refusal
 abbrev pub set_up_by : Verdict → ℕ → List Place → SetUp
-set_up_by Passed count places = record { bus = fresh_bus count places; verdict = Passed }
-set_up_by (Refused refusal) count places = record { bus = empty; verdict = Refused refusal }
+set_up_by (Ok tt) count places = record { bus = fresh_bus count places; verdict = Ok tt }
+set_up_by (Err refusal) count places = record { bus = empty; verdict = Err refusal }
 
 unfoldable pub set_up : ℕ → List Place → List ℕ → List ℕ → SetUp
 set_up count places array security = set_up_by (first_of (set_up_checks count places array security)) count places

@@ -5,9 +5,8 @@ use Rattle.chip.specs.declared.event.Event.{Event}
 use Rattle.chip.specs.declared.event.Event.TheVariants.{Start, Stop, Sent, Read, Wp, CycleOver, PowerUp}
 use Rattle.refusal.specs.declared.Refusal.{Refusal}
 use Rattle.refusal.specs.declared.Refusal.TheVariants.{NotWellFormed, WrongLength, WrongValue}
-use Rattle.refusal.specs.declared.Verdict.{Verdict}
-use Rattle.refusal.specs.declared.Verdict.TheVariants.{Passed, Refused}
-use Rattle.refusal.specs.declared.Answer.TheVariants as answer
+use Rattle.refusal.specs.Verdict.{Verdict, Answer}
+use Rattle.std.specs.Prelude.{Ok, Err}
 use Rattle.refusal.specs.Checks.{first_of}
 use Rattle.board.specs.Stores.{WithStores, array_of, security_of}
 use Rattle.board.specs.Shares.{wrong_length}
@@ -18,7 +17,6 @@ use Rattle.lineup.specs.Wellformed.{well_formed}
 use Rattle.line.specs.Line.{line_checks, OnLine, chips_of, said_of, play_with, line_reply}
 use Rattle.bus.specs.declared.Bus.{Bus}
 use Rattle.bus.specs.declared.Stepped.{Stepped}
-use Rattle.bus.specs.declared.Done.{Done}
 
 -- the state, then both stores
 abbrev pub entry_checks : Bus → List ℕ → List ℕ → List (Bool × Refusal)
@@ -38,12 +36,12 @@ event_checks bus word = decode_checks bus.count word ++ line_checks (addressed_o
 abbrev pub step_checks : Bus → List ℕ → List ℕ → ℕ → List (Bool × Refusal)
 step_checks bus array security word = entry_checks bus array security ++ event_checks bus word
 
--- a state of its parts, and what is handed back of one: what an event leaves and its answer, beside the count and the values
+-- a state of its parts, and one beside the answer to the event that left it
 abbrev pub bus_with : ℕ → Bool → List Chip → List ℕ → Bus
 bus_with count started chips values = record { count = count; started = started; chips = chips; values = values }
 
-abbrev pub handed : ℕ → Done → List ℕ → Stepped
-handed count done values = record { bus = bus_with count done.started done.chips values; answer = done.answer }
+abbrev pub answered : Bus → Answer → Stepped
+answered bus answer = record { bus = bus; answer = answer }
 
 -- whether a Start is remembered after an event that is done: an address byte is the first byte sent after it, no read that was done, Stop or
 -- power up between (request E8)
@@ -58,12 +56,12 @@ remembers PowerUp started = false
 
 -- a refused step returns the state it was given, and leaves both stores
 abbrev pub refused : Refusal → Bus → List ℕ → List ℕ → WithStores Stepped
-refused refusal bus array security = (record { bus = bus; answer = answer.Refused refusal }, array, security)
+refused refusal bus array security = (record { bus = bus; answer = Err refusal }, array, security)
 
 -- what the line made of an event, and the values that it has then
 abbrev pub done : Event → ℕ → Bool → OnLine × List ℕ → WithStores Stepped
 done event count started (line, values) = (
-  record { bus = bus_with count (remembers event started) (chips_of line) values; answer = answer.Done (line_reply event (said_of line)) },
+  record { bus = bus_with count (remembers event started) (chips_of line) values; answer = Ok (line_reply event (said_of line)) },
   array_of line,
   security_of line,
 )
@@ -73,8 +71,8 @@ played addressed bus array security =
     done (event_of addressed) bus.count bus.started (play_with addressed bus.count bus.chips bus.values array security)
 
 abbrev pub step_by : Verdict → Bus → List ℕ → List ℕ → ℕ → WithStores Stepped
-step_by Passed bus array security word = played (addressed_of bus.started word) bus array security
-step_by (Refused refusal) bus array security word = refused refusal bus array security
+step_by (Ok tt) bus array security word = played (addressed_of bus.started word) bus array security
+step_by (Err refusal) bus array security word = refused refusal bus array security
 
 -- one event of a state that is well formed, with stores of the right length
 unfoldable pub event : Bus → List ℕ → List ℕ → ℕ → WithStores Stepped
@@ -82,8 +80,8 @@ event bus array security word = step_by (first_of (event_checks bus word)) bus a
 
 -- one event, given what the checks at entry say
 abbrev pub step_given : Verdict → Bus → List ℕ → List ℕ → ℕ → WithStores Stepped
-step_given Passed bus array security word = event bus array security word
-step_given (Refused refusal) bus array security word = refused refusal bus array security
+step_given (Ok tt) bus array security word = event bus array security word
+step_given (Err refusal) bus array security word = refused refusal bus array security
 
 unfoldable pub step : Bus → List ℕ → List ℕ → ℕ → WithStores Stepped
 step bus array security word = step_given (first_of (entry_checks bus array security)) bus array security word

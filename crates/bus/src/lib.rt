@@ -1,12 +1,13 @@
 // The bench's bus: one to four chips on a line, set up, stepped and run (paper, "What the bench plays" and "Events and replies").
 #![tactic(auto)]
 
-ghost use Rattle.std.specs.Prelude.{◌≡◌, ◌≤◌, length, []};
+ghost use Rattle.std.specs.Prelude.{◌≡◌, ◌≤◌, ◌∷◌, length, ltb, Ok};
+ghost use Rattle.refusal.specs.declared.Refusal.TheVariants.{ShortBuffer};
 ghost use Rattle.refusal.specs.Checks.{first_of};
 ghost use Rattle.board.specs.Place.{placed};
 ghost use Rattle.lineup.specs.Wellformed.{well_formed};
 ghost use Rattle.bus.specs.Setup.{empty, set_up_checks, fresh_chips, set_up};
-ghost use Rattle.bus.specs.Step.{entry_checks, chip_checks, bus_with, handed, event_checks, remembers, played, event, step_given, step};
+ghost use Rattle.bus.specs.Step.{answered, entry_checks, chip_checks, event_checks, remembers, played, event, step_given, step};
 ghost use Rattle.bus.specs.Run.{run_up_to, outcome, run};
 
 use board::shares::wrong_length;
@@ -14,14 +15,14 @@ use board::{PLACES, Place, board_verdict, placed};
 use chip::Chip;
 use chip::event::Event;
 use decode::{Addressed, addressed_of, decode_verdict, event_of};
-use line::{line_reply, line_verdict};
+use line::{Played, line_reply, line_verdict};
 use lineup::places_of;
 use load::PAGE_MOST;
-use refusal::{Answer, Refusal, Verdict, answer_word};
+use refusal::{Refusal, answer_word};
 
 // `started`: a Start is remembered, so that the next byte sent is an address byte, whoever is busy (request E8). It stands last, so that the chips
 // lie where copying them is cheap.
-#[derive(Clone, Copy)]
+#[derive(Clone, Copy, Debug, PartialEq, Eq)]
 pub struct Bus {
     pub count: usize,
     pub chips: [Chip; PLACES],
@@ -29,22 +30,24 @@ pub struct Bus {
     pub started: bool,
 }
 
-#[derive(Clone, Copy)]
+// Struct and verdict, and no `Result`: a refused set-up returns an empty state, and a refused step or run the state that it was given (paper, "Events
+// and replies"; `refused_set_up_is_empty`).
+#[derive(Clone, Copy, Debug, PartialEq, Eq)]
 pub struct SetUp {
     pub bus: Bus,
-    pub verdict: Verdict,
+    pub verdict: Result<(), Refusal>,
 }
 
-#[derive(Clone, Copy)]
+#[derive(Clone, Copy, Debug, PartialEq, Eq)]
 pub struct Stepped {
     pub bus: Bus,
-    pub answer: Answer,
+    pub answer: Result<u8, Refusal>,
 }
 
-#[derive(Clone, Copy)]
+#[derive(Clone, Copy, Debug, PartialEq, Eq)]
 pub struct Ran {
     pub bus: Bus,
-    pub verdict: Verdict,
+    pub verdict: Result<(), Refusal>,
 }
 
 impl Bus {
@@ -61,66 +64,60 @@ impl Bus {
     }
 
     // Checks 1 to 5 in that order over all chips; writes to neither store. Places past the count are ignored.
+    #[tactic(auto, unfolding(crate::specs::Setup::set_up))]
     pub fn set_up(count: usize, places: [Place; PLACES], array: &[u8], security: &[u8]) -> SetUp
         ensures { result ≡ set_up count places array.now security.now }
     {
         let verdict = set_up_verdict(count, places, array, security);
-        match verdict {
-            Verdict::Refused(refusal) => SetUp {
-                bus: Bus::empty(),
-                verdict: Verdict::Refused(refusal),
+        let bus = match verdict {
+            Ok(()) => Bus {
+                count,
+                chips: fresh_chips(count, places),
+                ..Bus::empty()
             },
-            Verdict::Passed => SetUp {
-                bus: Bus {
-                    count,
-                    chips: fresh_chips(count, places),
-                    values: [0; PAGE_MOST],
-                    started: false,
-                },
-                verdict: Verdict::Passed,
-            },
-        }
+            Err(_) => Bus::empty(),
+        };
+        SetUp { bus, verdict }
     }
 
     pub fn well_formed(self) -> bool
         ensures { result ≡ well_formed self.count self.started self.chips }
     {
-        let chips = self.chips;
-        lineup::well_formed(self.count, self.started, chips)
+        lineup::well_formed(self.count, self.started, self.chips)
     }
 
     // Checks 10 and 5, which a step, a run and a page question begin with.
-    pub fn entry_verdict(self, array: &[u8], security: &[u8]) -> Verdict
+    pub fn entry_verdict(self, array: &[u8], security: &[u8]) -> Result<(), Refusal>
         ensures { result ≡ first_of (entry_checks self array.now security.now) }
     {
         if !self.well_formed() {
-            return Verdict::Refused(Refusal::NotWellFormed);
+            Err(Refusal::NotWellFormed)
+        } else if wrong_length(
+            self.count,
+            places_of(self.chips),
+            array.len(),
+            security.len(),
+        ) {
+            Err(Refusal::WrongLength)
+        } else {
+            Ok(())
         }
-        let chips = self.chips;
-        if wrong_length(self.count, places_of(chips), array.len(), security.len()) {
-            return Verdict::Refused(Refusal::WrongLength);
-        }
-        Verdict::Passed
     }
 
     // Checks 10, 5 and 7 of a chip that is named by its number alone.
-    pub fn chip_verdict(self, array: &[u8], security: &[u8], chip: usize) -> Verdict
+    pub fn chip_verdict(self, array: &[u8], security: &[u8], chip: usize) -> Result<(), Refusal>
         ensures { result ≡ first_of (chip_checks self array.now security.now chip) }
     {
-        let verdict = self.entry_verdict(array, security);
-        match verdict {
-            Verdict::Refused(refusal) => Verdict::Refused(refusal),
-            Verdict::Passed => {
-                if self.count <= chip {
-                    Verdict::Refused(Refusal::WrongValue)
-                } else {
-                    Verdict::Passed
-                }
-            }
+        self.entry_verdict(array, security)?;
+        if chip < self.count {
+            Ok(())
+        } else {
+            Err(Refusal::WrongValue)
         }
     }
 
     // One event. What is refused changes nothing.
+    #[tactic(auto, unfolding(crate::specs::Step::step))]
     pub fn step(self, array: &mut [u8], security: &mut [u8], word: u16) -> Stepped
         ensures { (result, array.new, security.new) ≡ step self array.old security.old word }
     {
@@ -131,41 +128,34 @@ impl Bus {
     // The same for a caller that has the verdict of checks 10 and 5 already.
     pub fn step_given(
         self,
-        entry: Verdict,
+        entry: Result<(), Refusal>,
         array: &mut [u8],
         security: &mut [u8],
         word: u16,
     ) -> Stepped
         ensures { (result, array.new, security.new) ≡ step_given entry self array.old security.old word }
     {
-        let count = self.count;
-        let started = self.started;
-        let chips = self.chips;
-        let mut values = self.values;
-        let done = given(
-            entry,
-            count,
-            started,
-            chips,
-            &mut values,
-            array,
-            security,
-            word,
-        );
-        let next = done.chips;
-        let answer = done.answer;
-        Stepped {
-            bus: Bus {
-                count,
-                chips: next,
-                values,
-                started: done.started,
-            },
-            answer,
-        }
+        let mut bus = self;
+        let answer = bus.step_lent(entry, array, security, word);
+        Stepped { bus, answer }
+    }
+
+    // The same of a state that is lent, so that it is not copied.
+    pub fn step_lent(
+        &mut self,
+        entry: Result<(), Refusal>,
+        array: &mut [u8],
+        security: &mut [u8],
+        word: u16,
+    ) -> Result<u8, Refusal>
+        ensures { (answered self.new result, array.new, security.new) ≡ step_given entry self.old array.old security.old word }
+    {
+        entry?;
+        event(self, array, security, word)
     }
 
     // One event after the other, with an answer for each. The state is tested once: every event keeps it well formed.
+    #[tactic(auto, unfolding(crate::specs::Run::run))]
     pub fn run(
         self,
         array: &mut [u8],
@@ -175,39 +165,46 @@ impl Bus {
     ) -> Ran
         ensures { outcome result array.new security.new answers.new ≡ run self array.old security.old events.now answers.old }
     {
-        if answers.len() < events.len() {
-            return Ran {
-                bus: self,
-                verdict: Verdict::Refused(Refusal::ShortBuffer),
-            };
+        let mut bus = self;
+        let verdict = bus.run_verdict(array, security, events.len(), answers.len());
+        if verdict.is_ok() {
+            run_all(&mut bus, array, security, events, answers);
         }
-        let verdict = self.entry_verdict(array, security);
-        match verdict {
-            Verdict::Refused(refusal) => Ran {
-                bus: self,
-                verdict: Verdict::Refused(refusal),
-            },
-            Verdict::Passed => Ran {
-                bus: run_all(self, array, security, events, answers),
-                verdict: Verdict::Passed,
-            },
+        Ran { bus, verdict }
+    }
+
+    // Check 11, then those at entry.
+    fn run_verdict(
+        self,
+        array: &[u8],
+        security: &[u8],
+        events: usize,
+        answers: usize,
+    ) -> Result<(), Refusal>
+        ensures { result ≡ first_of ((ltb answers events, ShortBuffer) ∷ entry_checks self array.now security.now) }
+    {
+        if answers < events {
+            Err(Refusal::ShortBuffer)
+        } else {
+            self.entry_verdict(array, security)
         }
     }
 }
 
-fn set_up_verdict(count: usize, places: [Place; PLACES], array: &[u8], security: &[u8]) -> Verdict
+#[tactic(auto, unfolding(board::specs::Board::board_verdict))]
+fn set_up_verdict(
+    count: usize,
+    places: [Place; PLACES],
+    array: &[u8],
+    security: &[u8],
+) -> Result<(), Refusal>
     ensures { result ≡ first_of (set_up_checks count places array.now security.now) }
 {
-    let verdict = board_verdict(count, places);
-    match verdict {
-        Verdict::Refused(refusal) => Verdict::Refused(refusal),
-        Verdict::Passed => {
-            if wrong_length(count, places, array.len(), security.len()) {
-                Verdict::Refused(Refusal::WrongLength)
-            } else {
-                Verdict::Passed
-            }
-        }
+    board_verdict(count, places)?;
+    if wrong_length(count, places, array.len(), security.len()) {
+        Err(Refusal::WrongLength)
+    } else {
+        Ok(())
     }
 }
 
@@ -215,26 +212,19 @@ fn set_up_verdict(count: usize, places: [Place; PLACES], array: &[u8], security:
 fn fresh_chips(count: usize, places: [Place; PLACES]) -> [Chip; PLACES]
     ensures { result ≡ fresh_chips places (placed count) }
 {
-    let n = placed(count);
     let mut chips = [Chip::fresh(0, 0); PLACES];
-    let mut i: usize = 0;
-    while i < n {
-        let place = places[i];
-        chips[i] = Chip::fresh(place.part, place.strap);
-        i += 1;
+    for i in 0..placed(count) {
+        chips[i] = Chip::fresh(places[i].part, places[i].strap);
     }
     chips
 }
 
 // Checks 6, 7, 12 and 8.
-fn event_verdict(count: usize, started: bool, chips: [Chip; PLACES], word: u16) -> Verdict
-    ensures { result ≡ first_of (event_checks (bus_with count started chips []) word) }
+fn event_verdict(bus: &Bus, word: u16) -> Result<(), Refusal>
+    ensures { result ≡ first_of (event_checks bus.now word) }
 {
-    let verdict = decode_verdict(count, word);
-    match verdict {
-        Verdict::Refused(refusal) => Verdict::Refused(refusal),
-        Verdict::Passed => line_verdict(addressed_of(started, word), count, chips),
-    }
+    decode_verdict(bus.count, word)?;
+    line_verdict(addressed_of(bus.started, word), bus.count, bus.chips)
 }
 
 // Whether a Start is remembered after an event that is done.
@@ -243,118 +233,50 @@ fn remembers(event: Event, started: bool) -> bool
 {
     match event {
         Event::Start => true,
-        Event::Stop => false,
-        Event::Sent(_, _) => false,
-        Event::Read(_) => false,
-        Event::Wp(_) => started,
-        Event::CycleOver => started,
-        Event::PowerUp => false,
+        Event::Wp(_) | Event::CycleOver => started,
+        Event::Stop | Event::Sent(_, _) | Event::Read(_) | Event::PowerUp => false,
     }
 }
 
-// What an event leaves, and its answer. Values and stores are lent, so that they are not copied from function to function.
-#[derive(Clone, Copy)]
-struct Done {
-    chips: [Chip; PLACES],
-    answer: Answer,
-    started: bool,
-}
-
-fn played(
-    addressed: Addressed,
-    count: usize,
-    started: bool,
-    chips: [Chip; PLACES],
-    values: &mut [u8; PAGE_MOST],
-    array: &mut [u8],
-    security: &mut [u8],
-) -> Done
-    ensures { (handed count result values.new, array.new, security.new) ≡ played addressed (bus_with count started chips values.old) array.old security.old }
+// One event of a state that passes all its checks, and the reply. The state is lent, so that it is not copied from function to function.
+#[tactic(auto, unfolding(crate::specs::Step::played))]
+fn played(addressed: Addressed, bus: &mut Bus, array: &mut [u8], security: &mut [u8]) -> u8
+    ensures { (answered bus.new (Ok result), array.new, security.new) ≡ played addressed bus.old array.old security.old }
 {
-    let world = line::play(addressed, count, chips, values, array, security);
-    let next = world.chips;
-    let said = world.said;
+    let Played { chips, said } = line::play(
+        addressed,
+        bus.count,
+        bus.chips,
+        &mut bus.values,
+        array,
+        security,
+    );
     let event = event_of(addressed);
-    Done {
-        chips: next,
-        answer: Answer::Done(line_reply(event, said)),
-        started: remembers(event, started),
-    }
+    bus.chips = chips;
+    bus.started = remembers(event, bus.started);
+    line_reply(event, said)
 }
 
 // One event of a state that has passed 10 and 5.
-fn event(
-    count: usize,
-    started: bool,
-    chips: [Chip; PLACES],
-    values: &mut [u8; PAGE_MOST],
-    array: &mut [u8],
-    security: &mut [u8],
-    word: u16,
-) -> Done
-    ensures { (handed count result values.new, array.new, security.new) ≡ event (bus_with count started chips values.old) array.old security.old word }
+#[tactic(auto, unfolding(crate::specs::Step::event))]
+fn event(bus: &mut Bus, array: &mut [u8], security: &mut [u8], word: u16) -> Result<u8, Refusal>
+    ensures { (answered bus.new result, array.new, security.new) ≡ event bus.old array.old security.old word }
 {
-    let verdict = event_verdict(count, started, chips, word);
-    match verdict {
-        Verdict::Refused(refusal) => Done {
-            chips,
-            answer: Answer::Refused(refusal),
-            started,
-        },
-        Verdict::Passed => played(
-            addressed_of(started, word),
-            count,
-            started,
-            chips,
-            values,
-            array,
-            security,
-        ),
-    }
-}
-
-// The same, given what the checks at entry say.
-fn given(
-    entry: Verdict,
-    count: usize,
-    started: bool,
-    chips: [Chip; PLACES],
-    values: &mut [u8; PAGE_MOST],
-    array: &mut [u8],
-    security: &mut [u8],
-    word: u16,
-) -> Done
-    ensures { (handed count result values.new, array.new, security.new) ≡ step_given entry (bus_with count started chips values.old) array.old security.old word }
-{
-    match entry {
-        Verdict::Refused(refusal) => Done {
-            chips,
-            answer: Answer::Refused(refusal),
-            started,
-        },
-        Verdict::Passed => event(count, started, chips, values, array, security, word),
-    }
+    event_verdict(bus, word)?;
+    Ok(played(addressed_of(bus.started, word), bus, array, security))
 }
 
 fn run_all(
-    bus: Bus,
+    bus: &mut Bus,
     array: &mut [u8],
     security: &mut [u8],
     events: &[u16],
     answers: &mut [u16],
-) -> Bus
+)
     requires { length events.now ≤ length answers.old }
-    ensures { (result, array.new, security.new, answers.new) ≡ run_up_to events.now (length events.now) (bus, array.old, security.old, answers.old) }
+    ensures { (bus.new, array.new, security.new, answers.new) ≡ run_up_to events.now (length events.now) (bus.old, array.old, security.old, answers.old) }
 {
-    let mut next = bus;
-    let mut i: usize = 0;
-    while i < events.len() {
-        let stepped = next.step_given(Verdict::Passed, array, security, events[i]);
-        let answer = stepped.answer;
-        let after = stepped.bus;
-        answers[i] = answer_word(answer);
-        next = after;
-        i += 1;
+    for (i, word) in events.iter().enumerate() {
+        answers[i] = answer_word(event(bus, array, security, *word));
     }
-    next
 }

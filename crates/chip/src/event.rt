@@ -1,5 +1,5 @@
 // An event as one chip meets it (paper, "Events and replies").
-#[derive(Clone, Copy)]
+#[derive(Clone, Copy, Debug, PartialEq, Eq)]
 pub enum Event {
     Start,
     Stop,

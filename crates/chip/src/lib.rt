@@ -9,16 +9,16 @@ ghost use Rattle.chip.specs.Chip.{fresh, start, take, read, stop, wp, cycle_over
 
 use crate::event::Event;
 use control::phase::{Phase, is_busy};
-use control::{Control, Said};
+use control::{Answered, Control, Said};
 use load::{PAGE_MOST, Span};
 
-#[derive(Clone, Copy)]
+#[derive(Clone, Copy, Debug, PartialEq, Eq)]
 pub struct Chip {
     pub control: Control,
     pub span: Span,
 }
 
-#[derive(Clone, Copy)]
+#[derive(Clone, Copy, Debug, PartialEq, Eq)]
 pub struct Stepped {
     pub chip: Chip,
     pub said: Said,
@@ -38,15 +38,13 @@ impl Chip {
     pub fn start(self) -> Chip
         ensures { result ≡ start self }
     {
-        let control = self.control;
-        let span = self.span;
-        let phase = control.phase;
-        if is_busy(phase) {
-            return self;
-        }
-        Chip {
-            control: control.in_phase(Phase::AwaitsAddress),
-            span: span.dropped(),
+        if is_busy(self.control.phase) {
+            self
+        } else {
+            Chip {
+                control: self.control.in_phase(Phase::AwaitsAddress),
+                span: self.span.dropped(),
+            }
         }
     }
 
@@ -54,16 +52,10 @@ impl Chip {
     pub fn take(self, first: bool, byte: u8, values: &mut [u8; PAGE_MOST]) -> Stepped
         ensures { (result, values.new) ≡ taken self first byte values.old }
     {
-        let control = self.control;
-        let span = self.span;
-        let answered = taking::take(control, first, byte);
-        let next = answered.control;
-        let said = answered.said;
+        let Answered { control, said } = taking::take(self.control, first, byte);
+        let span = taking::loaded(self.span, self.control, byte, values);
         Stepped {
-            chip: Chip {
-                control: next,
-                span: taking::loaded(span, control, byte, values),
-            },
+            chip: Chip { control, span },
             said,
         }
     }
@@ -72,16 +64,9 @@ impl Chip {
     pub fn read(self, array: &[u8], security: &[u8], nack: bool) -> Stepped
         ensures { result ≡ read self array.now security.now nack }
     {
-        let control = self.control;
-        let span = self.span;
-        let answered = sending::read(control, array, security, nack);
-        let next = answered.control;
-        let said = answered.said;
+        let Answered { control, said } = sending::read(self.control, array, security, nack);
         Stepped {
-            chip: Chip {
-                control: next,
-                span,
-            },
+            chip: Chip { control, ..self },
             said,
         }
     }
@@ -90,16 +75,13 @@ impl Chip {
     pub fn stop(self, values: &[u8; PAGE_MOST], array: &mut [u8], security: &mut [u8]) -> Chip
         ensures { (result, array.new, security.new) ≡ stop self values.now array.old security.old }
     {
-        let control = self.control;
-        let span = self.span;
-        let phase = control.phase;
-        if is_busy(phase) {
-            return self;
-        }
-        let after = cycle::stop(control, span, values, array, security);
-        Chip {
-            control: after,
-            span: span.dropped(),
+        if is_busy(self.control.phase) {
+            self
+        } else {
+            Chip {
+                control: cycle::stop(self.control, self.span, values, array, security),
+                span: self.span.dropped(),
+            }
         }
     }
 
@@ -107,11 +89,9 @@ impl Chip {
     pub fn wp(self, level: bool) -> Chip
         ensures { result ≡ wp level self }
     {
-        let control = self.control;
-        let span = self.span;
         Chip {
-            control: control.wp_at(level),
-            span,
+            control: self.control.wp_at(level),
+            ..self
         }
     }
 
@@ -119,27 +99,23 @@ impl Chip {
     pub fn cycle_over(self) -> Chip
         ensures { result ≡ cycle_over self }
     {
-        let control = self.control;
-        let span = self.span;
-        let phase = control.phase;
-        if is_busy(phase) {
-            return Chip {
-                control: control.in_phase(Phase::Standby),
-                span,
-            };
+        if is_busy(self.control.phase) {
+            Chip {
+                control: self.control.in_phase(Phase::Standby),
+                ..self
+            }
+        } else {
+            self
         }
-        self
     }
 
     // Stores, registers and the WP level stay.
     pub fn power_up(self) -> Chip
         ensures { result ≡ power_up self }
     {
-        let control = self.control;
-        let span = self.span;
         Chip {
-            control: control.powered_up(),
-            span: span.dropped(),
+            control: self.control.powered_up(),
+            span: self.span.dropped(),
         }
     }
 
@@ -149,12 +125,10 @@ impl Chip {
     {
         match event {
             Event::Start => self.start(),
-            Event::Stop => self,
-            Event::Sent(_, _) => self,
-            Event::Read(_) => self,
             Event::Wp(level) => self.wp(level),
             Event::CycleOver => self.cycle_over(),
             Event::PowerUp => self.power_up(),
+            Event::Stop | Event::Sent(..) | Event::Read(_) => self,
         }
     }
 }

@@ -32,8 +32,7 @@ fn confirms(first: u8, third: u8) -> bool
 fn configure(first: u8, second: u8, third: u8, c: Control) -> Control
     ensures { result ≡ configure first second third c }
 {
-    let free = !bit_of(c.config0, LOCK);
-    if base::logic::and(confirms(first, third), free) {
+    if confirms(first, third) && !bit_of(c.config0, LOCK) {
         c.configured(first % WRITABLE, second).busy_now()
     } else {
         c.standby_now()
@@ -44,10 +43,7 @@ pub fn stop_configuration(came: Came, c: Control) -> Control
     ensures { result ≡ stop_configuration came c }
 {
     match came {
-        Came::Zero => c.standby_now(),
-        Came::One(_) => c.standby_now(),
-        Came::Two(_, _) => c.standby_now(),
         Came::Three(first, second, third) => configure(first, second, third, c),
-        Came::More => c.standby_now(),
+        Came::Zero | Came::One(_) | Came::Two(..) | Came::More => c.standby_now(),
     }
 }

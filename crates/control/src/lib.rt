@@ -11,7 +11,7 @@ ghost use Rattle.control.specs.Said.{acked, silent, occupied, stays};
 use crate::phase::{Phase, Shown};
 
 // Part and strap are raw numbers, since a malformed state may hold any. The counters are `array` and `security`.
-#[derive(Clone, Copy)]
+#[derive(Clone, Copy, Debug, PartialEq, Eq)]
 pub struct Control {
     pub part: u8,
     pub strap: u8,
@@ -27,7 +27,7 @@ pub struct Control {
 }
 
 // What a chip says to an event. `Occupied`: it is busy, and an address byte names it (request E8).
-#[derive(Clone, Copy)]
+#[derive(Clone, Copy, Debug, PartialEq, Eq)]
 pub enum Said {
     Nothing,
     Ack,
@@ -35,7 +35,7 @@ pub enum Said {
     Byte(u8),
 }
 
-#[derive(Clone, Copy)]
+#[derive(Clone, Copy, Debug, PartialEq, Eq)]
 pub struct Answered {
     pub control: Control,
     pub said: Said,
@@ -61,101 +61,74 @@ impl Control {
         }
     }
 
-    // Setters: with `fresh` the only places that name every field.
+    // Setters.
     pub fn in_phase(self, phase: Phase) -> Control
         ensures { result ≡ in_phase phase self }
     {
-        let shown = self.shown;
-        Control {
-            part: self.part,
-            strap: self.strap,
-            wp: self.wp,
-            config0: self.config0,
-            config1: self.config1,
-            idlocked: self.idlocked,
-            arraycounter: self.arraycounter,
-            securitycounter: self.securitycounter,
-            shown,
-            chosen: self.chosen,
-            phase,
-        }
+        Self { phase, ..self }
     }
 
     pub fn showing(self, shown: Shown) -> Control
         ensures { result ≡ showing shown self }
     {
-        let phase = self.phase;
-        Control {
-            part: self.part,
-            strap: self.strap,
-            wp: self.wp,
-            config0: self.config0,
-            config1: self.config1,
-            idlocked: self.idlocked,
-            arraycounter: self.arraycounter,
-            securitycounter: self.securitycounter,
-            shown,
-            chosen: self.chosen,
-            phase,
-        }
+        Self { shown, ..self }
     }
 
     pub fn choosing(self, chosen: bool) -> Control
         ensures { result ≡ choosing chosen self }
     {
-        let mut control = self;
-        control.chosen = chosen;
-        control
+        Self { chosen, ..self }
     }
 
     pub fn arraycounter_at(self, at: u32) -> Control
         ensures { result ≡ arraycounter_at at self }
     {
-        let mut control = self;
-        control.arraycounter = at;
-        control
+        Self {
+            arraycounter: at,
+            ..self
+        }
     }
 
     pub fn securitycounter_at(self, at: u32) -> Control
         ensures { result ≡ securitycounter_at at self }
     {
-        let mut control = self;
-        control.securitycounter = at;
-        control
+        Self {
+            securitycounter: at,
+            ..self
+        }
     }
 
     pub fn idlocked_now(self) -> Control
         ensures { result ≡ idlocked_now self }
     {
-        let mut control = self;
-        control.idlocked = true;
-        control
+        Self {
+            idlocked: true,
+            ..self
+        }
     }
 
     pub fn configured(self, config0: u8, config1: u8) -> Control
         ensures { result ≡ configured config0 config1 self }
     {
-        let mut control = self;
-        control.config0 = config0;
-        control.config1 = config1;
-        control
+        Self {
+            config0,
+            config1,
+            ..self
+        }
     }
 
     pub fn wp_at(self, level: bool) -> Control
         ensures { result ≡ wp_at level self }
     {
-        let mut control = self;
-        control.wp = level;
-        control
+        Self { wp: level, ..self }
     }
 
     // A byte acknowledged, and one that is not.
     pub fn acked(self, phase: Phase) -> Answered
         ensures { result ≡ acked phase self }
     {
-        let control = self.in_phase(phase);
         Answered {
-            control,
+            control: self.in_phase(phase),
             said: Said::Ack,
         }
     }
@@ -163,9 +136,8 @@ impl Control {
     pub fn silent(self, phase: Phase) -> Answered
         ensures { result ≡ silent phase self }
     {
-        let control = self.in_phase(phase);
         Answered {
-            control,
+            control: self.in_phase(phase),
             said: Said::Nothing,
         }
     }
@@ -208,11 +180,9 @@ impl Control {
     pub fn powered_up(self) -> Control
         ensures { result ≡ powered_up self }
     {
-        let cleared = self
-            .choosing(false)
+        self.choosing(false)
             .arraycounter_at(0)
-            .securitycounter_at(0);
-        cleared
+            .securitycounter_at(0)
             .showing(Shown::ShowsSecurity)
             .in_phase(Phase::Standby)
     }

@@ -2,7 +2,7 @@
 ghost use Rattle.std.specs.Prelude.{◌≡◌};
 ghost use Rattle.control.specs.Phase.{is_busy, takes_data, is_sending, is_taking, is_awaiting, awaits_address};
 
-#[derive(Clone, Copy)]
+#[derive(Clone, Copy, Debug, PartialEq, Eq)]
 pub enum Phase {
     Standby,
     Busy,
@@ -16,7 +16,7 @@ pub enum Phase {
 }
 
 // Which word-address byte comes next: of the array with A16, of a register; the second one with the first.
-#[derive(Clone, Copy)]
+#[derive(Clone, Copy, Debug, PartialEq, Eq)]
 pub enum Word {
     ArrayFirst(bool),
     ArraySecond(bool, u8),
@@ -25,7 +25,7 @@ pub enum Word {
 }
 
 // Where data goes. Lock data knows whether a byte came.
-#[derive(Clone, Copy)]
+#[derive(Clone, Copy, Debug, PartialEq, Eq)]
 pub enum Data {
     ToArray,
     ToSecurity,
@@ -35,7 +35,7 @@ pub enum Data {
 }
 
 // The bytes that came for the configuration register. More than three is one case.
-#[derive(Clone, Copy)]
+#[derive(Clone, Copy, Debug, PartialEq, Eq)]
 pub enum Came {
     Zero,
     One(u8),
@@ -45,7 +45,7 @@ pub enum Came {
 }
 
 // Where a byte that is read comes from: configuration with whether it is byte 1, ID with its place.
-#[derive(Clone, Copy)]
+#[derive(Clone, Copy, Debug, PartialEq, Eq)]
 pub enum Source {
     FromArray,
     FromSecurity,
@@ -55,7 +55,7 @@ pub enum Source {
 }
 
 // What a 1011 read shows.
-#[derive(Clone, Copy)]
+#[derive(Clone, Copy, Debug, PartialEq, Eq)]
 pub enum Shown {
     ShowsSecurity,
     ShowsConfiguration,
@@ -65,86 +65,41 @@ pub enum Shown {
 pub fn is_busy(phase: Phase) -> bool
     ensures { result ≡ is_busy phase }
 {
-    match phase {
-        Phase::Standby => false,
-        Phase::Busy => true,
-        Phase::AwaitsAddress => false,
-        Phase::AwaitsChoice => false,
-        Phase::AwaitsWord(_) => false,
-        Phase::TakesData(_) => false,
-        Phase::SendsByte(_) => false,
-    }
+    matches!(phase, Phase::Busy)
 }
 
 // Only such a chip holds a load.
 pub fn takes_data(phase: Phase) -> bool
     ensures { result ≡ takes_data phase }
 {
-    match phase {
-        Phase::Standby => false,
-        Phase::Busy => false,
-        Phase::AwaitsAddress => false,
-        Phase::AwaitsChoice => false,
-        Phase::AwaitsWord(_) => false,
-        Phase::TakesData(_) => true,
-        Phase::SendsByte(_) => false,
-    }
+    matches!(phase, Phase::TakesData(_))
 }
 
 pub fn is_sending(phase: Phase) -> bool
     ensures { result ≡ is_sending phase }
 {
-    match phase {
-        Phase::Standby => false,
-        Phase::Busy => false,
-        Phase::AwaitsAddress => false,
-        Phase::AwaitsChoice => false,
-        Phase::AwaitsWord(_) => false,
-        Phase::TakesData(_) => false,
-        Phase::SendsByte(_) => true,
-    }
+    matches!(phase, Phase::SendsByte(_))
 }
 
 // Awaiting an address byte, or the byte after F8h, counts as taking (paper, "Well formed means").
 pub fn is_taking(phase: Phase) -> bool
     ensures { result ≡ is_taking phase }
 {
-    match phase {
-        Phase::Standby => false,
-        Phase::Busy => false,
-        Phase::AwaitsAddress => true,
-        Phase::AwaitsChoice => true,
-        Phase::AwaitsWord(_) => true,
-        Phase::TakesData(_) => true,
-        Phase::SendsByte(_) => false,
-    }
+    matches!(
+        phase,
+        Phase::AwaitsAddress | Phase::AwaitsChoice | Phase::AwaitsWord(_) | Phase::TakesData(_)
+    )
 }
 
 // Whether the next byte may be for any chip.
 pub fn is_awaiting(phase: Phase) -> bool
     ensures { result ≡ is_awaiting phase }
 {
-    match phase {
-        Phase::Standby => false,
-        Phase::Busy => false,
-        Phase::AwaitsAddress => true,
-        Phase::AwaitsChoice => true,
-        Phase::AwaitsWord(_) => false,
-        Phase::TakesData(_) => false,
-        Phase::SendsByte(_) => false,
-    }
+    matches!(phase, Phase::AwaitsAddress | Phase::AwaitsChoice)
 }
 
 pub fn awaits_address(phase: Phase) -> bool
     ensures { result ≡ awaits_address phase }
 {
-    match phase {
-        Phase::Standby => false,
-        Phase::Busy => false,
-        Phase::AwaitsAddress => true,
-        Phase::AwaitsChoice => false,
-        Phase::AwaitsWord(_) => false,
-        Phase::TakesData(_) => false,
-        Phase::SendsByte(_) => false,
-    }
+    matches!(phase, Phase::AwaitsAddress)
 }

@@ -18,7 +18,6 @@ use Rattle.bus.specs.declared.Bus.{Bus}
 use Rattle.conversation.specs.declared.Heard.{Heard}
 use Rattle.conversation.specs.declared.pending.Pending.{Pending}
 use Rattle.conversation.specs.Talk.{Left, converse}
-use Rattle.conversation.specs.Tape.{text_on}
 use Rattle.conversation.specs.Whole.{answer_all}
 use Rattle.conversation.proofs.tape.text_end.Kinds as text_end_kinds
 use Rattle.conversation.proofs.tape.text_end.Reads as text_end_reads
@@ -30,8 +29,8 @@ use Rattle.conversation.proofs.pending.pending_at.Kinds as pending_at_kinds
 use Rattle.conversation.proofs.pending.pending_at.Reads as pending_at_reads
 use Rattle.conversation.proofs.pending.next_pending.Kinds as next_pending_kinds
 use Rattle.conversation.proofs.pending.next_pending.Reads as next_pending_reads
-use Rattle.conversation.proofs.pending.heard_of.Kinds as heard_of_kinds
-use Rattle.conversation.proofs.pending.heard_of.Reads as heard_of_reads
+use Rattle.conversation.proofs.pending.HeardFromPending.from.Kinds as heard_of_kinds
+use Rattle.conversation.proofs.pending.HeardFromPending.from.Reads as heard_of_reads
 use Rattle.conversation.proofs.pending.finish.Kinds as finish_kinds
 use Rattle.conversation.proofs.pending.finish.Reads as finish_reads
 use Rattle.conversation.specs.contracts.converse as talk
@@ -51,13 +50,13 @@ keep_rest_unique κs args x y at_x at_y = same
 pub pending_at_unique : UniqueOutcome pending_at_kinds.ps pending_at_kinds.r (Pending × List ℕ) (λ κs result at. (result, at.1.1.1.0.now)) pending_at_reads.Post
 pending_at_unique κs args x y at_x at_y = same
 
-pub next_pending_unique : UniqueOutcome next_pending_kinds.ps next_pending_kinds.r (Pending × List ℕ) (λ κs result at. (result, at.1.1.1.1.0.now)) next_pending_reads.Post
+pub next_pending_unique : UniqueOutcome next_pending_kinds.ps next_pending_kinds.r (Pending × List ℕ) (λ κs result at. (result, at.1.1.1.1.1.0.now)) next_pending_reads.Post
 next_pending_unique κs args x y at_x at_y = same
 
 pub heard_of_unique : Unique heard_of_kinds.ps heard_of_kinds.r heard_of_reads.Post
 heard_of_unique κs args x y at_x at_y = same
 
-pub finish_unique : UniqueOutcome finish_kinds.ps finish_kinds.r (Heard × List ℕ) (λ κs result at. (result, at.1.1.1.0.now)) finish_reads.Post
+pub finish_unique : UniqueOutcome finish_kinds.ps finish_kinds.r (Heard × List ℕ) (λ κs result at. (result, at.1.1.0.now)) finish_reads.Post
 finish_unique κs args x y at_x at_y = same
 
 -- what a whole transcript leaves: what is told, both stores, the buffer
@@ -74,12 +73,12 @@ Answered text bus array security said left = left ≡ answer_all text bus array 
 module _ {M : Type 1} {𝓤 : Ura M} (𝓛 : Logic 𝓤) (mem : Memory → SProp 𝓤) (run : Routine → Fun 𝓤) where
   pub converse_says : (κs : Lfts 5) (args : Args talk.signature κs) (heard : Heard) (end : AtExit talk.ended κs)
       → (talk.clauses 𝓛 mem run κs args).ensures tt heard end
-      ≡ fact 𝓤 (Talked (text_on args.1.1.1.0.now args.1.1.1.1.0) args.0.now args.1.0.now args.1.1.0.now args.1.1.1.1.1.0.now (heard, end.0.now, end.1.0.now, end.1.1.0.now, end.1.1.1.1.1.0.now))
+      ≡ fact 𝓤 (Talked args.1.1.1.0.now args.0.now args.1.0.now args.1.1.0.now args.1.1.1.1.0.now (heard, end.0.now, end.1.0.now, end.1.1.0.now, end.1.1.1.1.0.now))
   converse_says κs args heard end = refl
 
   pub answer_all_says : (κs : Lfts 4) (args : Args answer_all_holds.signature κs) (heard : Heard) (end : AtExit answer_all_holds.ended κs)
       → (answer_all_holds.clauses 𝓛 mem run κs args).ensures tt heard end
-      ≡ fact 𝓤 (Answered (text_on args.1.1.1.0.now args.1.1.1.1.0) args.0 args.1.0.now args.1.1.0.now args.1.1.1.1.1.0.now (heard, end.1.0.now, end.1.1.0.now, end.1.1.1.1.1.0.now))
+      ≡ fact 𝓤 (Answered args.1.1.1.0.now args.0 args.1.0.now args.1.1.0.now args.1.1.1.1.0.now (heard, end.1.0.now, end.1.1.0.now, end.1.1.1.1.0.now))
   answer_all_says κs args heard end = refl
 
 -- what is told, the bus that was lent, both stores and the buffer

@@ -1,7 +1,7 @@
 -- What is pending in a conversation: the event that is to be played next, if there is one.
-use Rattle.std.specs.Prelude.{ℕ, ◌+◌, Bool, true, false, cond, List, leb, length}
+use Rattle.std.specs.Prelude.{ℕ, ◌+◌, Bool, true, false, cond, Some, None, List, leb, length}
 use Rattle.base.specs.Store.{patched}
-use Rattle.refusal.specs.declared.Answer.{Answer}
+use Rattle.refusal.specs.Verdict.{Answer}
 use Rattle.refusal.specs.Refusal.{answer_word}
 use Rattle.transcript.specs.declared.frame.Frame.{Frame}
 use Rattle.transcript.specs.declared.frame.Frame.TheVariants.{Event, Malformed, End}
@@ -17,14 +17,14 @@ has_room buffer written = leb (written + printed_bytes) (length buffer)
 
 -- no event is to be played: the text ends here, or its last line is unfinished, or there is no room
 abbrev pub paused : ℕ → ℕ → Pending
-paused at written = record { more = false; event = 0; at = at; written = written; over = false }
+paused at written = record { event = None; at = at; written = written; over = false }
 
 -- an event, with the place after its line
 abbrev pub to_play : ℕ → ℕ → ℕ → Pending
-to_play event next written = record { more = true; event = event; at = next; written = written; over = false }
+to_play event next written = record { event = Some event; at = next; written = written; over = false }
 
 abbrev pub last_pending : List ℕ → ℕ → Pending
-last_pending text written = record { more = false; event = 0; at = length text; written = written + printed_bytes; over = true }
+last_pending text written = record { event = None; at = length text; written = written + printed_bytes; over = true }
 
 abbrev pub pending_by : Frame → List ℕ → ℕ → List ℕ → ℕ → Pending × List ℕ
 pending_by (Event event next) text at buffer written = (to_play event next written, buffer)
@@ -37,10 +37,10 @@ unfoldable pub pending_at : List ℕ → ℕ → List ℕ → ℕ → Pending ×
 pending_at text at buffer written = cond (has_room buffer written) (pending_by (frame_at text at) text at buffer written) (paused at written, buffer)
 
 -- an event was played: its answer is noted, and what stands at the place after it is pending
-unfoldable pub next_pending : List ℕ → Pending → Answer → List ℕ → Pending × List ℕ
-next_pending text pending answer buffer =
+unfoldable pub next_pending : List ℕ → Pending → ℕ → Answer → List ℕ → Pending × List ℕ
+next_pending text pending event answer buffer =
     cond (has_room buffer pending.written)
-    (pending_at text pending.at (patched pending.written (printed pending.event (answer_word answer)) buffer) (pending.written + printed_bytes))
+    (pending_at text pending.at (patched pending.written (printed event (answer_word answer)) buffer) (pending.written + printed_bytes))
     (paused pending.at pending.written, buffer)
 
 abbrev pub heard_of : Pending → Heard

@@ -23,6 +23,14 @@ writes_array c span = holds span && not (is_protected c)
 abbrev pub writes_security : Control → Span → Bool
 writes_security c span = holds span && (in_id_page (geometry_of c.part) c.securitycounter && not (id_page_protected c))
 
+-- the page of a counter, free at this moment or not
+abbrev pub stop_load : Bool → ℕ → Control → Load → List ℕ → Control × List ℕ
+stop_load free at c load share =
+    cond (holds load.span && free) (busy_now c, store_page (geometry_of c.part) at load share) (standby_now c, share)
+
+abbrev pub id_page_free : Control → Bool
+id_page_free c = in_id_page (geometry_of c.part) c.securitycounter && not (id_page_protected c)
+
 -- loaded bytes are stored into the page that the counter lies in, and the chip is busy; else nothing is stored and it is not
 abbrev pub stop_array : Control → Load → List ℕ → Control × List ℕ
 stop_array c load array =

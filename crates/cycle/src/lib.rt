@@ -4,7 +4,7 @@
 
 ghost use Rattle.std.specs.Prelude.{◌≡◌};
 ghost use Rattle.load.specs.Load.{load_of};
-ghost use Rattle.cycle.specs.Stop.{writes_array, writes_security, stop_array, stop_security, stop_lock, stop_data, stop};
+ghost use Rattle.cycle.specs.Stop.{id_page_free, stop_load, stop_lock, stop_data, stop};
 
 use configuration::stop_configuration;
 use control::Control;
@@ -13,52 +13,37 @@ use load::{PAGE_MOST, Span};
 use protection::{id_page_protected, is_protected};
 use regions::page::in_id_page;
 
-// With at least one data byte, and the page not protected at this moment.
-fn writes_array(c: Control, span: Span) -> bool
-    ensures { result ≡ writes_array c span }
+// The page of a counter is written where it is free at this moment and at least one data byte came. Nothing is stored before the Stop.
+fn stop_load(
+    free: bool,
+    at: u32,
+    c: Control,
+    span: Span,
+    values: &[u8; PAGE_MOST],
+    share: &mut [u8],
+) -> Control
+    ensures { (result, share.new) ≡ stop_load free at c (load_of span values.now) share.old }
 {
-    let some = !span.is_empty();
-    let free = !is_protected(c);
-    base::logic::and(some, free)
-}
-
-// The same, and in the ID page: the read-only half never changes.
-fn writes_security(c: Control, span: Span) -> bool
-    ensures { result ≡ writes_security c span }
-{
-    let some = !span.is_empty();
-    let free = !id_page_protected(c);
-    let writable = base::logic::and(in_id_page(c.part, c.securitycounter), free);
-    base::logic::and(some, writable)
-}
-
-// Nothing is stored before the Stop.
-fn stop_array(c: Control, span: Span, values: &[u8; PAGE_MOST], array: &mut [u8]) -> Control
-    ensures { (result, array.new) ≡ stop_array c (load_of span values.now) array.old }
-{
-    if writes_array(c, span) {
-        span.store_page(c.part, c.arraycounter, values, array);
-        return c.busy_now();
+    if !span.is_empty() && free {
+        span.store_page(c.part, at, values, share);
+        c.busy_now()
+    } else {
+        c.standby_now()
     }
-    c.standby_now()
 }
 
-fn stop_security(c: Control, span: Span, values: &[u8; PAGE_MOST], security: &mut [u8]) -> Control
-    ensures { (result, security.new) ≡ stop_security c (load_of span values.now) security.old }
+// The read-only half never changes.
+fn id_page_free(c: Control) -> bool
+    ensures { result ≡ id_page_free c }
 {
-    if writes_security(c, span) {
-        span.store_page(c.part, c.securitycounter, values, security);
-        return c.busy_now();
-    }
-    c.standby_now()
+    in_id_page(c.part, c.securitycounter) && !id_page_protected(c)
 }
 
 // With at least one data byte, on a page that is not locked yet.
 fn stop_lock(some: bool, c: Control) -> Control
     ensures { result ≡ stop_lock some c }
 {
-    let free = !c.idlocked;
-    if base::logic::and(some, free) {
+    if some && !c.idlocked {
         c.idlocked_now().busy_now()
     } else {
         c.standby_now()
@@ -76,15 +61,23 @@ fn stop_data(
     ensures { (result, array.new, security.new) ≡ stop_data kind c (load_of span values.now) array.old security.old }
 {
     match kind {
-        Data::ToArray => stop_array(c, span, values, array),
-        Data::ToSecurity => stop_security(c, span, values, security),
+        Data::ToArray => stop_load(!is_protected(c), c.arraycounter, c, span, values, array),
+        Data::ToSecurity => stop_load(
+            id_page_free(c),
+            c.securitycounter,
+            c,
+            span,
+            values,
+            security,
+        ),
         Data::ToConfiguration(came) => stop_configuration(came, c),
         Data::ToLock(some) => stop_lock(some, c),
         Data::ToNowhere => c.standby_now(),
     }
 }
 
-// A Stop. A busy chip takes no notice.
+// A Stop. A busy chip takes no notice. The shares are two slices and no struct of two (tried): a contract would have to say of such a struct too
+// that each reference is still the one that was lent.
 #[tactic(auto, unfolding(crate::specs::Stop::stop))]
 pub fn stop(
     c: Control,
@@ -95,14 +88,9 @@ pub fn stop(
 ) -> Control
     ensures { (result, array.new, security.new) ≡ stop c (load_of span values.now) array.old security.old }
 {
-    let phase = c.phase;
-    match phase {
-        Phase::Standby => c.standby_now(),
+    match c.phase {
         Phase::Busy => c,
-        Phase::AwaitsAddress => c.standby_now(),
-        Phase::AwaitsChoice => c.standby_now(),
-        Phase::AwaitsWord(_) => c.standby_now(),
         Phase::TakesData(kind) => stop_data(kind, c, span, values, array, security),
-        Phase::SendsByte(_) => c.standby_now(),
+        _ => c.standby_now(),
     }
 }

@@ -9,15 +9,7 @@ use control::phase::{Phase, is_busy, is_sending, is_taking};
 pub fn lacks_cycle(event: Event, phase: Phase) -> bool
     ensures { result ≡ lacks_cycle event phase }
 {
-    match event {
-        Event::Start => false,
-        Event::Stop => false,
-        Event::Sent(_, _) => false,
-        Event::Read(_) => false,
-        Event::Wp(_) => false,
-        Event::CycleOver => !is_busy(phase),
-        Event::PowerUp => false,
-    }
+    matches!(event, Event::CycleOver) && !is_busy(phase)
 }
 
 // Refusal 8, of one chip.
@@ -25,12 +17,8 @@ pub fn clashes_with(event: Event, phase: Phase) -> bool
     ensures { result ≡ clashes_with event phase }
 {
     match event {
-        Event::Start => false,
-        Event::Stop => false,
         Event::Sent(_, _) => is_sending(phase),
         Event::Read(_) => is_taking(phase),
-        Event::Wp(_) => false,
-        Event::CycleOver => false,
-        Event::PowerUp => false,
+        Event::Start | Event::Stop | Event::Wp(_) | Event::CycleOver | Event::PowerUp => false,
     }
 }

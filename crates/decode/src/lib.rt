@@ -5,100 +5,94 @@ pub mod hearing;
 
 ghost use Rattle.std.specs.Prelude.{◌≡◌};
 ghost use Rattle.refusal.specs.Checks.{first_of};
-ghost use Rattle.decode.specs.Decode.{kind_of, value_of, unknown_kind, value_allowed, decode_checks, addressed_in, addressed_of, reaches, event_of};
+ghost use Rattle.decode.specs.Decode.{value_allowed, decode_checks, addressed_in, addressed_of, reaches, event_of};
+ghost use Rattle.decode.specs.Kind.{number_of, Numbers};
 
-use base::logic::and;
-use base::word::BYTE;
 use chip::event::Event;
-use refusal::{Refusal, Verdict};
+use refusal::Refusal;
 
-// The kinds.
-const START: u8 = 1;
-
-const STOP: u8 = 2;
-
-const SEND: u8 = 3;
-
-const READ: u8 = 4;
-
-const WP_LOW: u8 = 5;
-
-const WP_HIGH: u8 = 6;
-
-const CYCLE_OVER: u8 = 7;
-
-const POWER_UP: u8 = 8;
+// The kinds of event, as the paper numbers them from 01 on.
+#[derive(Clone, Copy, Debug, PartialEq, Eq)]
+enum Kind {
+    Start,
+    Stop,
+    Send,
+    Read,
+    WpLow,
+    WpHigh,
+    CycleOver,
+    PowerUp,
+}
 
 // The value of a read that the host does not acknowledge.
 const NACK: u8 = 1;
 
 // An event for every chip, or for the chip named.
-#[derive(Clone, Copy)]
+#[derive(Clone, Copy, Debug, PartialEq, Eq)]
 pub enum Addressed {
     ToAll(Event),
     ToOne(u8, Event),
 }
 
-fn kind_of(word: u16) -> u8
-    ensures { result ≡ kind_of word }
-{
-    (word / BYTE) as u8
+impl TryFrom<u8> for Kind {
+    type Error = Refusal;
+
+    ghost try_from_gives = { Numbers };
+
+    fn try_from(number: u8) -> Result<Kind, Refusal> {
+        match number {
+            1 => Ok(Kind::Start),
+            2 => Ok(Kind::Stop),
+            3 => Ok(Kind::Send),
+            4 => Ok(Kind::Read),
+            5 => Ok(Kind::WpLow),
+            6 => Ok(Kind::WpHigh),
+            7 => Ok(Kind::CycleOver),
+            8 => Ok(Kind::PowerUp),
+            _ => Err(Refusal::UnknownKind),
+        }
+    }
 }
 
-fn value_of(word: u16) -> u8
-    ensures { result ≡ value_of word }
-{
-    (word % BYTE) as u8
-}
+impl Kind {
+    fn allows(self, count: usize, value: u8) -> bool
+        ensures { result ≡ value_allowed count (number_of self) value }
+    {
+        match self {
+            Kind::Send => true,
+            Kind::Read => value <= NACK,
+            Kind::WpLow | Kind::WpHigh | Kind::CycleOver => usize::from(value) < count,
+            Kind::Start | Kind::Stop | Kind::PowerUp => value == 0,
+        }
+    }
 
-fn unknown_kind(kind: u8) -> bool
-    ensures { result ≡ unknown_kind kind }
-{
-    !and(START <= kind, kind <= POWER_UP)
-}
-
-fn value_allowed(count: usize, kind: u8, value: u8) -> bool
-    ensures { result ≡ value_allowed count kind value }
-{
-    if kind == SEND {
-        return true;
+    // A byte sent while a Start is remembered is the first after it (request E8).
+    fn asks(self, started: bool, value: u8) -> Addressed
+        ensures { result ≡ addressed_in started (number_of self) value }
+    {
+        match self {
+            Kind::Start => Addressed::ToAll(Event::Start),
+            Kind::Stop => Addressed::ToAll(Event::Stop),
+            Kind::Send => Addressed::ToAll(Event::Sent(started, value)),
+            Kind::Read => Addressed::ToAll(Event::Read(value == NACK)),
+            Kind::WpLow => Addressed::ToOne(value, Event::Wp(false)),
+            Kind::WpHigh => Addressed::ToOne(value, Event::Wp(true)),
+            Kind::CycleOver => Addressed::ToOne(value, Event::CycleOver),
+            Kind::PowerUp => Addressed::ToAll(Event::PowerUp),
+        }
     }
-    if kind == READ {
-        return value <= NACK;
-    }
-    if and(WP_LOW <= kind, kind <= CYCLE_OVER) {
-        return (value as usize) < count;
-    }
-    value == 0
 }
 
 // Checks 6 and 7 of a step.
-pub fn decode_verdict(count: usize, word: u16) -> Verdict
+pub fn decode_verdict(count: usize, word: u16) -> Result<(), Refusal>
     ensures { result ≡ first_of (decode_checks count word) }
 {
-    let kind = kind_of(word);
-    if unknown_kind(kind) {
-        return Verdict::Refused(Refusal::UnknownKind);
-    }
-    if !value_allowed(count, kind, value_of(word)) {
-        return Verdict::Refused(Refusal::WrongValue);
-    }
-    Verdict::Passed
-}
-
-// A byte sent while a Start is remembered is the first after it (request E8).
-fn addressed_in(started: bool, kind: u8, value: u8) -> Addressed
-    ensures { result ≡ addressed_in started kind value }
-{
-    match kind {
-        START => Addressed::ToAll(Event::Start),
-        STOP => Addressed::ToAll(Event::Stop),
-        SEND => Addressed::ToAll(Event::Sent(started, value)),
-        READ => Addressed::ToAll(Event::Read(value == NACK)),
-        WP_LOW => Addressed::ToOne(value, Event::Wp(false)),
-        WP_HIGH => Addressed::ToOne(value, Event::Wp(true)),
-        CYCLE_OVER => Addressed::ToOne(value, Event::CycleOver),
-        _ => Addressed::ToAll(Event::PowerUp),
+    let [number, value] = word.to_be_bytes();
+    let kind = Kind::try_from(number)?;
+    if kind.allows(count, value) {
+        Ok(())
+    } else {
+        Err(Refusal::WrongValue)
     }
 }
 
@@ -107,7 +101,10 @@ fn addressed_in(started: bool, kind: u8, value: u8) -> Addressed
 pub fn addressed_of(started: bool, word: u16) -> Addressed
     ensures { result ≡ addressed_of started word }
 {
-    addressed_in(started, kind_of(word), value_of(word))
+    let [number, value] = word.to_be_bytes();
+    Kind::try_from(number)
+        .unwrap_or(Kind::PowerUp)
+        .asks(started, value)
 }
 
 // Whether it is for chip i.
@@ -116,7 +113,7 @@ pub fn reaches(addressed: Addressed, i: usize) -> bool
 {
     match addressed {
         Addressed::ToAll(_) => true,
-        Addressed::ToOne(named, _) => i == (named as usize),
+        Addressed::ToOne(named, _) => i == usize::from(named),
     }
 }
 
@@ -124,7 +121,6 @@ pub fn event_of(addressed: Addressed) -> Event
     ensures { result ≡ event_of addressed }
 {
     match addressed {
-        Addressed::ToAll(event) => event,
-        Addressed::ToOne(_, event) => event,
+        Addressed::ToAll(event) | Addressed::ToOne(_, event) => event,
     }
 }

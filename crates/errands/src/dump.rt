@@ -1,15 +1,12 @@
 // A page as a person reads it, on standard output: a heading, then 16 bytes a line, with their address in the chip's store, as digits and
 // as text. The address has five digits and a colon, so that no line looks like an answer.
-ghost use Rattle.std.specs.Prelude.{◌<◌, ◌≤◌};
+ghost use Rattle.std.specs.Prelude.{◌≤◌, length};
 
-use base::logic::and;
-use base::number::least;
 use board::Place;
 use parts::part::{Part24CSM01, PartAT24CM01};
 use print::byte_text;
-use std::io::Result;
-use std::num::wrapping_add_usize;
-use stream::write_on;
+use std::io::{Result, Write};
+use stream::Patient;
 use transcript::frame::LF;
 
 // The number of the array store.
@@ -40,24 +37,20 @@ const BYTE: usize = 256;
 
 // A byte as text, where it is a character.
 fn shown_as(byte: u8) -> u8 {
-    if and(b' ' <= byte, byte <= b'~') {
-        return byte;
+    if matches!(byte, b' '..=b'~') {
+        byte
+    } else {
+        b'.'
     }
-    b'.'
 }
 
 // A line without its bytes.
 fn bare_line(address: usize) -> [u8; LINE] {
+    let [_, a] = byte_text((address / WORD % BYTE) as u8);
+    let [b, c] = byte_text((address / BYTE % BYTE) as u8);
+    let [d, e] = byte_text((address % BYTE) as u8);
     let mut line = [b' '; LINE];
-    let high = byte_text((address / WORD % BYTE) as u8);
-    let middle = byte_text((address / BYTE % BYTE) as u8);
-    let low = byte_text((address % BYTE) as u8);
-    line[0] = high[1];
-    line[1] = middle[0];
-    line[2] = middle[1];
-    line[3] = low[0];
-    line[4] = low[1];
-    line[COLON_AT] = b':';
+    line[..=COLON_AT].copy_from_slice(&[a, b, c, d, e, b':']);
     line[BAR_AT] = b'|';
     line[END_AT] = b'|';
     line[END_AT + 1] = LF;
@@ -66,95 +59,57 @@ fn bare_line(address: usize) -> [u8; LINE] {
 
 fn dump_line(address: usize, bytes: &[u8]) -> [u8; LINE] {
     let mut line = bare_line(address);
-    let n = least(bytes.len(), LINE_BYTES);
-    let mut i: usize = 0;
-    while i < n {
-        let digits = byte_text(bytes[i]);
-        line[BYTES_AT + STRIDE * i] = digits[0];
-        line[BYTES_AT + STRIDE * i + 1] = digits[1];
-        line[TEXT_AT + i] = shown_as(bytes[i]);
-        i += 1;
+    for (i, byte) in bytes.iter().take(LINE_BYTES).enumerate() {
+        let [high, low] = byte_text(*byte);
+        line[BYTES_AT + STRIDE * i] = high;
+        line[BYTES_AT + STRIDE * i + 1] = low;
+        line[TEXT_AT + i] = shown_as(*byte);
     }
     line
 }
 
-// Where the line that begins at a place ends.
-fn line_end(at: usize, end: usize) -> usize
-    requires { at < end }
-    ensures { (at < result) × (result ≤ end) }
-{
-    if end - at < LINE_BYTES {
-        return end;
-    }
-    at + LINE_BYTES
-}
-
 // The lines of a page, from an address on.
-fn write_lines(rt: &HostRuntime, start: usize, page: &[u8]) -> Result<()> {
-    let mut at: usize = 0;
-    while at < page.len() {
-        let end = line_end(at, page.len());
-        write(
-            rt,
-            &dump_line(wrapping_add_usize(start, at), &page[at..end]),
-        )?;
-        at = end;
+fn write_lines(out: &mut impl Write, start: usize, page: &[u8]) -> Result<()> {
+    let mut address = start;
+    for bytes in page.chunks(LINE_BYTES) {
+        out.write_all(&dump_line(address, bytes))?;
+        address = address.wrapping_add(LINE_BYTES);
     }
     Ok(())
 }
 
-fn write(rt: &HostRuntime, text: &[u8]) -> Result<()> {
-    write_on(rt, &mut rt.stdout(), text)
-}
-
-fn write_digit(rt: &HostRuntime, value: u8) -> Result<()> {
-    let digits = byte_text(value);
-    write(rt, &[digits[1]])
-}
-
-fn write_part(rt: &HostRuntime, part: u8) -> Result<()> {
-    if part == Part24CSM01::NUMBER {
-        return write(rt, b"24CSM01");
+fn part_name(part: u8) -> &'static str {
+    match part {
+        Part24CSM01::NUMBER => "24CSM01",
+        PartAT24CM01::NUMBER => "AT24CM01",
+        _ => "24CS32",
     }
-    if part == PartAT24CM01::NUMBER {
-        return write(rt, b"AT24CM01");
-    }
-    write(rt, b"24CS32")
-}
-
-fn write_chip(rt: &HostRuntime, chip: u8, place: Place) -> Result<()> {
-    write(rt, b"  chip ")?;
-    write_digit(rt, chip)?;
-    write(rt, b" (")?;
-    write_part(rt, place.part)?;
-    write(rt, b" at strap ")?;
-    write_digit(rt, place.strap)
-}
-
-fn write_store(rt: &HostRuntime, store: u8) -> Result<()> {
-    if store == ARRAY {
-        return write(rt, b"), array\n");
-    }
-    write(rt, b"), security register\n")
 }
 
 // The address of a page of this size. No page number of a word has more than four digits.
 fn address_of(number: usize, size: usize) -> usize {
-    number % WORD * least(size, BYTE)
+    number % WORD * size.min(BYTE)
 }
 
 // The word that asked for the page, its chip and store, then the page. A failure ends it.
 pub fn show(
     rt: &HostRuntime,
     word: &[u8],
-    chip: u8,
+    chip: usize,
     place: Place,
     store: u8,
     number: usize,
     page: &[u8],
 ) -> Result<()> {
-    write(rt, word)?;
-    write_chip(rt, chip, place)?;
-    write_store(rt, store)?;
-    write_lines(rt, address_of(number, page.len()), page)
+    let mut out = Patient::new(rt, rt.stdout());
+    out.write_all(word)?;
+    let part = part_name(place.part);
+    let strap = place.strap;
+    let store = if store == ARRAY {
+        "array"
+    } else {
+        "security register"
+    };
+    writeln!(out, "  chip {chip} ({part} at strap {strap}), {store}")?;
+    write_lines(&mut out, address_of(number, page.len()), page)
 }

@@ -1,26 +1,25 @@
 // The errands on the command line: files to be loaded before a run, pages to be shown and files to be saved after it (request E1). The
-// words are gone through once for each step, so that there may be any number of them.
+// words are gone through once for each pass, so that there may be any number of them.
 #![tactic(auto)]
 
 mod dump;
 pub mod telling;
 
-ghost use Rattle.std.specs.Prelude.{◌≡◌, ◌≤◌, length};
+ghost use Rattle.std.specs.Prelude.{◌≡◌, length};
 
 use asking::page::{PageAsked, page_asked};
+use asking::words::each_word;
 use asking::{Asked, PATH, asked_by};
-use base::number::least;
-use board::PLACES;
 use bus::Bus;
 use dump::show;
-use files::{Content, Outcome, prepare, read_whole, write_whole};
+use files::{Unread, prepare, read_whole, write_whole};
 use image::loading::load;
 use image::saving::save;
 use lineup::places_of;
-use pages::{page, page_verdict};
-use refusal::{Refusal, Verdict};
-use status::{Status, greatest};
-use std::env::{Env, FillError};
+use pages::page_verdict;
+use refusal::Refusal;
+use status::Status;
+use std::io::Error;
 use telling::{tell_failure, tell_no_page, tell_refusal, tell_too_long};
 
 // The most bytes of a path, as C counts them.
@@ -29,41 +28,8 @@ const PATH_MAX: usize = 4_096;
 // The most bytes of a word that is an errand.
 pub const WORD: usize = PATH + PATH_MAX;
 
-// The first word is the program's own name.
-const OWN: usize = 1;
-
 // The most bytes of a file.
 const TEXT: usize = 2_097_152;
-
-// What is done in turn. Before the run each chip and page must be there, files are loaded, and those to be saved must take writing; after
-// it pages are shown, and files saved.
-#[derive(Clone, Copy)]
-enum Step {
-    Check,
-    Load,
-    Prepare,
-    Show,
-    Save,
-}
-
-// Whether what cannot be done leaves the rest undone: before the run it does, after it the others are shown and saved.
-fn is_before(step: Step) -> bool {
-    match step {
-        Step::Check => true,
-        Step::Load => true,
-        Step::Prepare => true,
-        Step::Show => false,
-        Step::Save => false,
-    }
-}
-
-// How the errands ended: all done, one refused, or a file not to be had. What is not done is told on standard error.
-#[derive(Clone, Copy)]
-pub enum Ending {
-    Done,
-    Refused(Refusal),
-    Failed,
-}
 
 // Room for a file. The length is said by itself, so that no caller has to count the bytes.
 pub fn blank_text() -> [u8; TEXT]
@@ -79,319 +45,171 @@ pub fn blank_word() -> [u8; WORD]
     [0u8; WORD]
 }
 
-pub fn status_of(ending: Ending) -> Status {
-    match ending {
-        Ending::Done => Status::Answered,
-        Ending::Refused(_) => Status::Refused,
-        Ending::Failed => Status::Broken,
-    }
+// Why an errand is not done: it is refused, or a file is not to be had. Either was told on standard error.
+#[derive(Clone, Copy, Debug, PartialEq, Eq)]
+pub enum Undone {
+    Refused(Refusal),
+    Failed,
 }
 
-fn is_done(ending: Ending) -> bool {
-    match ending {
-        Ending::Done => true,
-        Ending::Refused(_) => false,
-        Ending::Failed => false,
-    }
-}
+impl From<Undone> for Status {
+    ghost from_gives = { λ _ _. Unit {0} };
 
-// What is refused is told, with the line of the file where one is at fault.
-fn ending_of(rt: &HostRuntime, name: &[u8], line: usize, verdict: Verdict) -> Ending {
-    match verdict {
-        Verdict::Passed => Ending::Done,
-        Verdict::Refused(refusal) => {
-            tell_refusal(rt, name, line, refusal);
-            Ending::Refused(refusal)
+    fn from(undone: Undone) -> Self {
+        match undone {
+            Undone::Refused(_) => Self::Refused,
+            Undone::Failed => Self::Broken,
         }
     }
 }
 
-fn load_file(
-    rt: &HostRuntime,
-    bus: Bus,
-    array: &mut [u8],
-    security: &[u8],
-    chip: usize,
-    path: &[u8],
-    text: &mut [u8],
-) -> Ending {
-    let content = read_whole(rt, path, text);
-    match content {
-        Content::Whole(size) => {
-            let loaded = load(bus, array, security, chip, &text[0..size]);
-            let verdict = loaded.verdict;
-            ending_of(rt, path, loaded.line, verdict)
-        }
-        Content::TooLong => {
-            tell_too_long(rt, path, text.len());
-            Ending::Failed
-        }
-        Content::Failed(error) => {
-            tell_failure(rt, path, error);
-            Ending::Failed
-        }
-    }
+// The refusal is told, with the line of the file where one is at fault.
+fn refused(rt: &HostRuntime, name: &[u8], line: usize, refusal: Refusal) -> Undone {
+    tell_refusal(rt, name, line, refusal);
+    Undone::Refused(refusal)
 }
 
-// Sees before the run that the file can be written to.
-fn prepare_file(rt: &HostRuntime, path: &[u8]) -> Ending {
-    match prepare(rt, path) {
-        Outcome::Done => Ending::Done,
-        Outcome::Failed(error) => {
-            tell_failure(rt, path, error);
-            Ending::Failed
+// Why a call failed is told.
+fn failed(rt: &HostRuntime, name: &[u8], error: Error) -> Undone {
+    tell_failure(rt, name, error);
+    Undone::Failed
+}
+
+// A board with its memories, and room for a file: what the errands are run on.
+// Each field that is lent to be written has a lifetime of its own, so that the borrow checker lends it beside the others.
+#[derive(Drop)]
+pub struct Errands<'a, 'm, 't> {
+    pub rt: &'a HostRuntime,
+    pub bus: Bus,
+    pub array: &'m mut [u8],
+    pub security: &'a [u8],
+    pub text: &'t mut [u8],
+}
+
+impl Errands<'_, '_, '_> {
+    // Each chip and page must be there.
+    fn check(&mut self, word: &[u8]) -> Result<(), Undone> {
+        let (rt, bus, security) = (self.rt, self.bus, self.security);
+        if let Some(Asked::Load(chip) | Asked::Save(chip)) = asked_by(word) {
+            let verdict = bus.chip_verdict(self.array, security, chip);
+            return verdict.map_err(|refusal| refused(rt, word, 0, refusal));
         }
-    }
-}
-
-// The text stands at the start of a buffer.
-fn write_file(rt: &HostRuntime, path: &[u8], buffer: &[u8], written: usize) -> Ending {
-    let end = least(written, buffer.len());
-    match write_whole(rt, path, &buffer[0..end]) {
-        Outcome::Done => Ending::Done,
-        Outcome::Failed(error) => {
-            tell_failure(rt, path, error);
-            Ending::Failed
-        }
-    }
-}
-
-fn save_file(
-    rt: &HostRuntime,
-    bus: Bus,
-    array: &[u8],
-    security: &[u8],
-    chip: usize,
-    path: &[u8],
-    text: &mut [u8],
-) -> Ending {
-    let saved = save(bus, array, security, chip, text);
-    let verdict = saved.verdict;
-    match verdict {
-        Verdict::Passed => write_file(rt, path, text, saved.written),
-        Verdict::Refused(refusal) => {
-            tell_refusal(rt, path, 0, refusal);
-            Ending::Refused(refusal)
-        }
-    }
-}
-
-// The step of a word that asks to load.
-fn load_step(
-    rt: &HostRuntime,
-    step: Step,
-    bus: Bus,
-    array: &mut [u8],
-    security: &[u8],
-    chip: usize,
-    word: &[u8],
-    text: &mut [u8],
-) -> Ending
-    requires { 7 ≤ length word.now }
-{
-    match step {
-        Step::Check => ending_of(rt, word, 0, bus.chip_verdict(array, security, chip)),
-        Step::Load => load_file(rt, bus, array, security, chip, &word[PATH..], text),
-        Step::Prepare => Ending::Done,
-        Step::Show => Ending::Done,
-        Step::Save => Ending::Done,
-    }
-}
-
-// The step of a word that asks to save.
-fn save_step(
-    rt: &HostRuntime,
-    step: Step,
-    bus: Bus,
-    array: &[u8],
-    security: &[u8],
-    chip: usize,
-    word: &[u8],
-    text: &mut [u8],
-) -> Ending
-    requires { 7 ≤ length word.now }
-{
-    match step {
-        Step::Check => ending_of(rt, word, 0, bus.chip_verdict(array, security, chip)),
-        Step::Load => Ending::Done,
-        Step::Prepare => prepare_file(rt, &word[PATH..]),
-        Step::Show => Ending::Done,
-        Step::Save => save_file(rt, bus, array, security, chip, &word[PATH..], text),
-    }
-}
-
-// Chip, store and page must be there.
-fn check_page(rt: &HostRuntime, verdict: Verdict, word: &[u8]) -> Ending {
-    match verdict {
-        Verdict::Passed => Ending::Done,
-        Verdict::Refused(refusal) => {
+        let Some(asked) = page_asked(word) else {
+            return Ok(());
+        };
+        let verdict = page_verdict(
+            bus,
+            self.array,
+            security,
+            asked.chip,
+            asked.store,
+            asked.page,
+        );
+        verdict.map_err(|refusal| {
             tell_no_page(rt, word, refusal);
-            Ending::Refused(refusal)
-        }
+            Undone::Refused(refusal)
+        })
     }
-}
 
-// The page of a chip that was seen to be there.
-fn show_page(
-    rt: &HostRuntime,
-    bus: Bus,
-    chip: usize,
-    store: u8,
-    number: usize,
-    word: &[u8],
-    shown: &[u8],
-) -> Ending {
-    if PLACES <= chip {
-        return Ending::Done;
-    }
-    let chips = bus.chips;
-    let places = places_of(chips);
-    match show(rt, word, chip as u8, places[chip], store, number, shown) {
-        Ok(()) => Ending::Done,
-        Err(error) => {
-            tell_failure(rt, b"standard output", error);
-            Ending::Failed
-        }
-    }
-}
-
-// The step of a word that asks for a page.
-fn page_step<'a>(
-    rt: &HostRuntime,
-    step: Step,
-    bus: Bus,
-    array: &'a [u8],
-    security: &'a [u8],
-    chip: usize,
-    store: u8,
-    number: usize,
-    word: &[u8],
-) -> Ending {
-    match step {
-        Step::Check => check_page(
-            rt,
-            page_verdict(bus, array, security, chip, store, number),
-            word,
-        ),
-        Step::Load => Ending::Done,
-        Step::Prepare => Ending::Done,
-        Step::Show => {
-            let shown = page(bus, array, security, chip, store, number);
-            show_page(rt, bus, chip, store, number, word, shown)
-        }
-        Step::Save => Ending::Done,
-    }
-}
-
-// The step of a word that asks for no file.
-fn other_step<'a>(
-    rt: &HostRuntime,
-    step: Step,
-    bus: Bus,
-    array: &'a [u8],
-    security: &'a [u8],
-    word: &[u8],
-) -> Ending {
-    match page_asked(word) {
-        PageAsked::Page(chip, store, number) => page_step(
-            rt, step, bus, array, security, chip, store, number, word,
-        ),
-        PageAsked::Unknown => Ending::Done,
-    }
-}
-
-// The step of any word.
-fn step_of(
-    rt: &HostRuntime,
-    step: Step,
-    word: &[u8],
-    bus: Bus,
-    array: &mut [u8],
-    security: &[u8],
-    text: &mut [u8],
-) -> Ending {
-    match asked_by(word) {
-        Asked::Load(chip) => load_step(rt, step, bus, array, security, chip, word, text),
-        Asked::Save(chip) => save_step(rt, step, bus, array, security, chip, word, text),
-        Asked::Unknown => other_step(rt, step, bus, array, security, word),
-    }
-}
-
-// The step of the word at a place, if there is one. A word that is longer than any errand is none.
-fn step_at(
-    rt: &HostRuntime,
-    step: Step,
-    i: usize,
-    bus: Bus,
-    array: &mut [u8],
-    security: &[u8],
-    text: &mut [u8],
-) -> Option<Ending> {
-    let mut space = blank_word();
-    match rt.arg(i, &mut space) {
-        Ok(n) => {
-            let word = &space[..n];
-            Some(step_of(rt, step, word, bus, array, security, text))
-        }
-        Err(FillError::TooLong) => Some(Ending::Done),
-        Err(FillError::NotPresent) => None,
-    }
-}
-
-// One step of all words, in their order. Before the run the first that is not done ends it.
-fn step_all(
-    rt: &HostRuntime,
-    step: Step,
-    bus: Bus,
-    array: &mut [u8],
-    security: &[u8],
-    text: &mut [u8],
-) -> Ending {
-    let mut ending = Ending::Done;
-    for i in OWN..usize::MAX {
-        match step_at(rt, step, i, bus, array, security, text) {
-            Some(next) => {
-                if !is_done(next) {
-                    if is_before(step) {
-                        return next;
-                    }
-                    ending = next;
-                }
+    fn load_file(&mut self, chip: usize, path: &[u8]) -> Result<(), Undone> {
+        let (rt, bus, security) = (self.rt, self.bus, self.security);
+        let array = &mut *self.array;
+        let text = &mut *self.text;
+        let size = match read_whole(rt, path, text) {
+            Ok(size) => size,
+            Err(Unread::TooLong) => {
+                tell_too_long(rt, path, text.len());
+                return Err(Undone::Failed);
             }
-            None => return ending,
+            Err(Unread::Failed(error)) => return Err(failed(rt, path, error)),
+        };
+        let loaded = load(bus, array, security, chip, &text[..size]);
+        loaded.map_err(|error| refused(rt, path, error.line, error.refusal))
+    }
+
+    // Loads the file that a word names.
+    fn load(&mut self, word: &[u8]) -> Result<(), Undone> {
+        match asked_by(word) {
+            Some(Asked::Load(chip)) => self.load_file(chip, &word[PATH..]),
+            _ => Ok(()),
         }
     }
-    ending
-}
 
-// Before a run: nothing is to be played unless all is done.
-pub fn begin(
-    rt: &HostRuntime,
-    bus: Bus,
-    array: &mut [u8],
-    security: &[u8],
-    text: &mut [u8],
-) -> Ending {
-    let checked = step_all(rt, Step::Check, bus, array, security, text);
-    if !is_done(checked) {
-        return checked;
+    // Sees before the run that the file can be written to.
+    fn prepare(&mut self, word: &[u8]) -> Result<(), Undone> {
+        let rt = self.rt;
+        match asked_by(word) {
+            Some(Asked::Save(_)) => {
+                let path = &word[PATH..];
+                prepare(rt, path).map_err(|error| failed(rt, path, error))
+            }
+            _ => Ok(()),
+        }
     }
-    let loaded = step_all(rt, Step::Load, bus, array, security, text);
-    if !is_done(loaded) {
-        return loaded;
-    }
-    step_all(rt, Step::Prepare, bus, array, security, text)
-}
 
-// After it. The state is asked for its board alone, which no event changes.
-pub fn finish(
-    rt: &HostRuntime,
-    bus: Bus,
-    array: &mut [u8],
-    security: &[u8],
-    text: &mut [u8],
-) -> Status {
-    let shown = step_all(rt, Step::Show, bus, array, security, text);
-    let saved = step_all(rt, Step::Save, bus, array, security, text);
-    greatest(status_of(shown), status_of(saved))
+    // Shows the page of a chip that was seen to be there.
+    fn show(&mut self, word: &[u8]) -> Result<(), Undone> {
+        let (rt, bus, security) = (self.rt, self.bus, self.security);
+        let Some(PageAsked { chip, store, page }) = page_asked(word) else {
+            return Ok(());
+        };
+        let places = places_of(bus.chips);
+        let Some(place) = places.get(chip) else {
+            return Ok(());
+        };
+        let shown = pages::page(bus, self.array, security, chip, store, page);
+        show(rt, word, chip, *place, store, page, shown).map_err(|error| failed(
+            rt,
+            b"standard output",
+            error,
+        ))
+    }
+
+    fn save_file(&mut self, chip: usize, path: &[u8]) -> Result<(), Undone> {
+        let (rt, bus, security) = (self.rt, self.bus, self.security);
+        let array = &mut *self.array;
+        let text = &mut *self.text;
+        let saved = save(bus, array, security, chip, text);
+        let size = saved.map_err(|refusal| refused(rt, path, 0, refusal))?;
+        let end = size.min(text.len());
+        write_whole(rt, path, &text[..end]).map_err(|error| failed(rt, path, error))
+    }
+
+    // Saves to the file that a word names.
+    fn save(&mut self, word: &[u8]) -> Result<(), Undone> {
+        match asked_by(word) {
+            Some(Asked::Save(chip)) => self.save_file(chip, &word[PATH..]),
+            _ => Ok(()),
+        }
+    }
+
+    // Before a run: nothing is to be played unless all is done. The first that is not ends it.
+    pub fn begin(&mut self) -> Result<(), Undone> {
+        let rt = self.rt;
+        let mut room = blank_word();
+        each_word(rt, &mut room, |_, word| self.check(word.unwrap_or(b"")))?;
+        each_word(rt, &mut room, |_, word| self.load(word.unwrap_or(b"")))?;
+        each_word(rt, &mut room, |_, word| self.prepare(word.unwrap_or(b"")))
+    }
+
+    // After it: the others are shown and saved, whatever is not done. The state is asked for its board alone, which no event changes.
+    pub fn finish(&mut self) -> Status {
+        let rt = self.rt;
+        let mut room = blank_word();
+        let mut shown = Status::Answered;
+        let _ = each_word(rt, &mut room, |_, word| -> Result<(), Undone> {
+            if let Err(undone) = self.show(word.unwrap_or(b"")) {
+                shown = Status::from(undone);
+            }
+            Ok(())
+        });
+        let mut saved = Status::Answered;
+        let _ = each_word(rt, &mut room, |_, word| -> Result<(), Undone> {
+            if let Err(undone) = self.save(word.unwrap_or(b"")) {
+                saved = Status::from(undone);
+            }
+            Ok(())
+        });
+        shown.max(saved)
+    }
 }

@@ -1,76 +1,79 @@
 // What goes wrong is told on standard error. Where that takes nothing there is nowhere else to tell it.
-use base::number::least;
-use refusal::{Refusal, number_of};
-use std::io::{Cursor, Error, Write};
-use stream::write_on;
+use refusal::Refusal;
+use std::io::{Cursor, Error, Stderr, Write};
+use std::{fmt, io};
+use stream::Patient;
 
-pub fn say(rt: &HostRuntime, text: &[u8]) {
-    let _ = write_on(rt, &mut rt.stderr(), text);
-}
-
-// The most digits of a number.
-const MOST_DIGITS: usize = 20;
-
-pub fn say_number(rt: &HostRuntime, number: u64) {
-    let mut digits = Cursor::new([0u8; MOST_DIGITS]);
-    let _ = write!(digits, "{number}");
-    let n = least(digits.position() as usize, MOST_DIGITS);
-    say(rt, &digits.into_inner()[..n]);
+pub fn errors(rt: &HostRuntime) -> Patient<'_, HostRuntime, Stderr> {
+    Patient::new(rt, rt.stderr())
 }
 
 // The program's name, and what it speaks of.
-pub fn say_name(rt: &HostRuntime, name: &[u8]) {
-    say(rt, b"bench: ");
-    say(rt, name);
-    say(rt, b": ");
+pub fn write_name(to: &mut impl Write, name: &[u8]) -> io::Result<()> {
+    to.write_all(b"bench: ")?;
+    to.write_all(name)?;
+    to.write_all(b": ")
 }
 
 // A refusal in words, where it is one of a board or a file.
-fn say_reason(rt: &HostRuntime, refusal: Refusal) {
-    match refusal {
-        Refusal::UnknownPart => say(rt, b"a part other than 1, 2, 3"),
-        Refusal::StrapOutside => say(rt, b"a strap outside its part's range"),
-        Refusal::SharedAddress => say(rt, b"two chips match one address byte"),
-        Refusal::BadRecord => say(rt, b"bad digit or length"),
-        Refusal::WrongSum => say(rt, b"wrong checksum"),
-        Refusal::UnknownType => say(rt, b"unknown record type"),
-        Refusal::PastArray => say(rt, b"address past the array"),
-        Refusal::NoEnd => say(rt, b"no end record, or text after it"),
-        Refusal::WrongValue => say(rt, b"there is no such chip"),
-        _ => say(rt, b"refused"),
+#[derive(Clone, Copy)]
+struct Reason(Refusal);
+
+impl fmt::Display for Reason {
+    fn fmt<W: fmt::Write>(&self, f: &mut fmt::Formatter<W>) -> fmt::Result {
+        f.write_str(match self.0 {
+            Refusal::UnknownPart => "a part other than 1, 2, 3",
+            Refusal::StrapOutside => "a strap outside its part's range",
+            Refusal::SharedAddress => "two chips match one address byte",
+            Refusal::BadRecord => "bad digit or length",
+            Refusal::WrongSum => "wrong checksum",
+            Refusal::UnknownType => "unknown record type",
+            Refusal::PastArray => "address past the array",
+            Refusal::NoEnd => "no end record, or text after it",
+            Refusal::WrongValue => "there is no such chip",
+            _ => "refused",
+        })
     }
 }
 
-fn say_refusal(rt: &HostRuntime, refusal: Refusal) {
-    say_reason(rt, refusal);
-    say(rt, b" (");
-    say_number(rt, number_of(refusal) as u64);
-    say(rt, b")\n");
+fn write_refusal(
+    to: &mut impl Write,
+    name: &[u8],
+    line: usize,
+    refusal: Refusal,
+) -> io::Result<()> {
+    write_name(to, name)?;
+    if 0 < line {
+        write!(to, "line {line}: ")?;
+    }
+    writeln!(to, "{} ({})", Reason(refusal), u8::from(refusal))
 }
 
 // With the line of the file, where one is at fault.
 pub fn tell_refusal(rt: &HostRuntime, name: &[u8], line: usize, refusal: Refusal) {
-    say_name(rt, name);
-    if 0 < line {
-        say(rt, b"line ");
-        say_number(rt, line as u64);
-        say(rt, b": ");
-    }
-    say_refusal(rt, refusal);
+    let _ = write_refusal(&mut errors(rt), name, line, refusal);
+}
+
+fn write_no_page(to: &mut impl Write, word: &[u8], refusal: Refusal) -> io::Result<()> {
+    write_name(to, word)?;
+    writeln!(
+        to,
+        "there is no such chip, store or page ({})",
+        u8::from(refusal)
+    )
 }
 
 pub fn tell_no_page(rt: &HostRuntime, word: &[u8], refusal: Refusal) {
-    say_name(rt, word);
-    say(rt, b"there is no such chip, store or page (");
-    say_number(rt, number_of(refusal) as u64);
-    say(rt, b")\n");
+    let _ = write_no_page(&mut errors(rt), word, refusal);
+}
+
+fn write_too_long(to: &mut impl Write, name: &[u8], most: usize) -> io::Result<()> {
+    write_name(to, name)?;
+    writeln!(to, "too long (more than {most} bytes)")
 }
 
 pub fn tell_too_long(rt: &HostRuntime, name: &[u8], most: usize) {
-    say_name(rt, name);
-    say(rt, b"too long (more than ");
-    say_number(rt, most as u64);
-    say(rt, b" bytes)\n");
+    let _ = write_too_long(&mut errors(rt), name, most);
 }
 
 // The most bytes of a reason.
@@ -79,23 +82,27 @@ const REASON: usize = 320;
 // What stands behind a reason of C's: its number, which is not told.
 const NUMBER: &str = " (os error ";
 
-fn say_error(rt: &HostRuntime, error: Error) {
+fn write_error(to: &mut impl Write, error: Error) -> io::Result<()> {
     let mut reason = Cursor::new([0u8; REASON]);
     let _ = write!(reason, "{error}");
-    let n = least(reason.position() as usize, REASON);
+    let n = (reason.position() as usize).min(REASON);
     let bytes = reason.into_inner();
     match std::str::from_utf8(&bytes[..n]) {
         Ok(text) => match text.split_once(NUMBER) {
-            Some((words, _)) => say(rt, words.as_bytes()),
-            None => say(rt, text.as_bytes()),
+            Some((words, _)) => to.write_all(words.as_bytes()),
+            None => to.write_all(text.as_bytes()),
         },
-        Err(_) => {}
+        Err(_) => Ok(()),
     }
+}
+
+fn write_failure(to: &mut impl Write, name: &[u8], error: Error) -> io::Result<()> {
+    write_name(to, name)?;
+    write_error(to, error)?;
+    to.write_all(b"\n")
 }
 
 // Why a call failed.
 pub fn tell_failure(rt: &HostRuntime, name: &[u8], error: Error) {
-    say_name(rt, name);
-    say_error(rt, error);
-    say(rt, b"\n");
+    let _ = write_failure(&mut errors(rt), name, error);
 }

@@ -1,10 +1,11 @@
 // Chips as they leave the factory: erased, and with a serial number each (paper, "The transcript"; sheets, section 10.1).
 #![tactic(auto)]
 
-ghost use Rattle.std.specs.Prelude.{◌<◌, ◌≤◌, ◌^◌, ◌≡◌, set, length};
+ghost use Rattle.std.specs.Prelude.{◌<◌, ◌≤◌, ◌^◌, ◌≡◌, length};
 ghost use Rattle.factory.specs.Memory.{erased, arrays_size, registers_size};
 ghost use Rattle.factory.specs.Serial.{marked, serial_byte, serial, serials};
 
+use base::share::put;
 use board::shares::security_start;
 use board::{PLACES, Place, placed};
 use parts::part::{Part24CSM01, geometry_of};
@@ -17,12 +18,19 @@ const ARRAYS: usize = PLACES * Part24CSM01::ARRAY as usize;
 
 const REGISTERS: usize = PLACES * Part24CSM01::SECURITY as usize;
 
+// An erased memory of any size.
+fn erased_memory<const N: usize>() -> [u8; N]
+    ensures { result ≡ erased N }
+{
+    [ERASED; N]
+}
+
 // The arrays of the largest board, erased. The length is said by itself, so that no caller has to count the bytes.
 pub fn erased_arrays() -> [u8; ARRAYS]
     ensures arrays_size_value { arrays_size ≡ length result }
     ensures value { result ≡ erased arrays_size }
 {
-    [ERASED; ARRAYS]
+    erased_memory()
 }
 
 // Its security registers likewise.
@@ -30,7 +38,7 @@ pub fn erased_registers() -> [u8; REGISTERS]
     ensures registers_size_value { registers_size ≡ length result }
     ensures value { result ≡ erased registers_size }
 {
-    [ERASED; REGISTERS]
+    erased_memory()
 }
 
 // The bytes of a serial number.
@@ -39,23 +47,13 @@ const SERIAL: usize = 16;
 // Every byte of chip k's serial number is this and k.
 const FIRST_SERIAL: u8 = 0x10;
 
-// Past the store there is nothing to store to.
-fn put(byte: u8, at: usize, security: &mut [u8])
-    ensures { security.new ≡ set security.old at byte }
-{
-    if at < security.len() {
-        security[at] = byte;
-    }
-}
-
+#[tactic(auto, unfolding(crate::specs::Serial::marked, base::specs::Fold::up_to))]
 fn mark(byte: u8, at: usize, security: &mut [u8])
     requires { at ≤ 2 ^ 32 }
     ensures { security.new ≡ marked byte at security.old }
 {
-    let mut i: usize = 0;
-    while i < SERIAL {
+    for i in 0..SERIAL {
         put(byte, at + i, security);
-        i += 1;
     }
 }
 
@@ -71,21 +69,17 @@ fn mark_serial(chip: usize, places: [Place; PLACES], security: &mut [u8])
     requires { chip < 4 }
     ensures { security.new ≡ serial places chip security.old }
 {
-    let place = places[chip];
-    let registers = geometry_of(place.part).registers;
-    if registers {
+    if geometry_of(places[chip].part).registers {
         mark(serial_byte(chip), security_start(chip, places), security);
     }
 }
 
 // Each chip's in its own share; all else stays.
+#[tactic(auto, using(base::proofs::Fold::up_none, base::proofs::Fold::up_more))]
 pub fn mark_serials(count: usize, places: [Place; PLACES], security: &mut [u8])
     ensures { security.new ≡ serials count places security.old }
 {
-    let n = placed(count);
-    let mut k: usize = 0;
-    while k < n {
+    for k in 0..placed(count) {
         mark_serial(k, places, security);
-        k += 1;
     }
 }

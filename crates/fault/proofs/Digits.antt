@@ -1,36 +1,26 @@
--- One digit after the other: a line has as many digits as were met, and those of the rest.
-use Prim.Native.Nat.{ℕ, suc, ◌+◌, ◌-◌, ◌≤◌, ◌<◌}
-use native.Mathlib.Omega.{arith}
-use mathlib.Core.Bool.{true, false}
-use mathlib.Core.List.{List}
-use mathlib.Core.Path.{◌≡◌}
-use native.Mathlib.Numerals.{add-one}
-use lib.ListN.{length, drop, get_or, drop_of_length-le}
-use lib.Seq.{drop-cons}
-use Rattle.transcript.specs.Digit.{is_digit}
+-- The digits that a line begins with, as std counts them.
+use Rattle.std.proofs.Common.{◌≡◌, refl, ℕ, zero, suc, Bool, true, false, cond, List, [], ◌∷◌, length, take, ◌∙◌, one-add, Some, None}
+use Rattle.std.specs.List.{prefix_len, take_while}
+use Rattle.std.specs.Option.{is_some}
+use Rattle.std.proofs.lemmas.List.Folds.{length-prefix_len}
+use Rattle.transcript.specs.Digit.{digit_of, is_digit, digit_value}
 use Rattle.fault.specs.Fault.{digits_in}
 
--- those from byte i on, of the first k
-abbrev pub digits_from : ℕ → ℕ → List ℕ → ℕ
-digits_from k i line = digits_in (k - i) (drop i line)
+abbrev has_value : ℕ → Bool
+has_value b = is_some (digit_value b)
 
-module _ (k i : ℕ) (line : List ℕ) (more : i < k) where
-  one_less : k - i ≡ suc (k - (i + 1))
-  one_less = omega arith
+is_value : (b : ℕ) → has_value b ≡ is_digit b
+is_value b = go (is_digit b)
+  where
+    go : (test : Bool) → is_some (cond test (Some (digit_of b)) None) ≡ test
+    go true = refl
+    go false = refl
 
-  pub digit_on : i < length line → is_digit (get_or line i 0) ≡ true → digits_from k i line ≡ suc (digits_from k (i + 1) line)
-  unfolding digits_in
-  digit_on within is = rw (one_less, drop-cons line i 0 within, is, add-one i)
-
-  pub digits_end : i < length line → is_digit (get_or line i 0) ≡ false → digits_from k i line ≡ 0
-  unfolding digits_in
-  digits_end within is = rw (one_less, drop-cons line i 0 within, is)
-
-  pub line_ends : length line ≤ i → digits_from k i line ≡ 0
-  unfolding digits_in
-  line_ends past = rw (one_less, drop_of_length-le line past)
-
--- past the first k there are none to be counted
-pub no_more : (k i : ℕ) (line : List ℕ) → k ≤ i → digits_from k i line ≡ 0
+front : (n : ℕ) (line : List ℕ) → prefix_len has_value (take n line) ≡ digits_in n line
 unfolding digits_in
-no_more k i line past = let none : k - i ≡ 0 = omega arith in rw none
+front zero line = refl
+front (suc n) [] = refl
+front (suc n) (b ∷ line) = simp (is_value b, front n line, one-add) refl
+
+pub digits_front : (n : ℕ) (line : List ℕ) → length (take_while has_value (take n line)) ≡ digits_in n line
+digits_front n line = length-prefix_len has_value (take n line) ∙ front n line

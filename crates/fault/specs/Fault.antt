@@ -1,10 +1,10 @@
 -- What is wrong with a line of a transcript, which is four digits 0-9 A-F, then LF (paper, "The transcript"). The first byte that is wrong
 -- decides. A line is all the text from its place on.
-use Rattle.std.specs.Prelude.{ℕ, zero, suc, Bool, cond, ◌&&◌, ◌||◌, List, [], ◌∷◌, eqb, ltb, leb, length, get_or}
+use Rattle.std.specs.Prelude.{ℕ, zero, suc, Bool, cond, ◌&&◌, ◌||◌, List, [], ◌∷◌, eqb, ltb, leb, length, get_or, Option, Some, None}
 use Rattle.transcript.specs.Digit.{is_digit}
 use Rattle.transcript.specs.Frame.{lf}
 use Rattle.fault.specs.declared.Fault.{Fault}
-use Rattle.fault.specs.declared.Fault.TheVariants.{NoFault, EmptyLine, TooShort, LowerCase, ReturnByte, BlankByte, NoDigit, TooLong, Unended}
+use Rattle.fault.specs.declared.Fault.TheVariants.{EmptyLine, TooShort, LowerCase, ReturnByte, BlankByte, NoDigit, TooLong, Unended}
 
 -- the digits of a line, before its LF
 abbrev pub line_digits : ℕ
@@ -35,15 +35,15 @@ fault_among n b =
     (cond (is_lower_case b) LowerCase
     (cond (is_blank b) BlankByte NoDigit)))
 
--- the byte after four digits
-abbrev pub fault_after : ℕ → Fault
-fault_after b = cond (eqb b lf) NoFault (cond (eqb b cr) ReturnByte TooLong)
+-- the byte after four digits, which should be LF
+abbrev pub fault_after : ℕ → Option Fault
+fault_after b = cond (eqb b lf) None (Some (cond (eqb b cr) ReturnByte TooLong))
 
 -- by the number of digits before the first byte that is none
-abbrev pub fault_behind : ℕ → List ℕ → Fault
+abbrev pub fault_behind : ℕ → List ℕ → Option Fault
 fault_behind n line =
-    cond (leb (length line) n) Unended
-    (cond (ltb n line_digits) (fault_among n (get_or line n 0)) (fault_after (get_or line n 0)))
+    cond (leb (length line) n) (Some Unended)
+    (cond (ltb n line_digits) (Some (fault_among n (get_or line n 0))) (fault_after (get_or line n 0)))
 
-abbrev pub fault_of : List ℕ → Fault
+abbrev pub fault_of : List ℕ → Option Fault
 fault_of line = fault_behind (digits_in line_digits line) line

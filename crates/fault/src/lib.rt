@@ -2,17 +2,16 @@
 // first mistakes, and FFFF0900 names none of them.
 #![tactic(auto)]
 
-ghost use Rattle.std.specs.Prelude.{◌≡◌};
-ghost use Rattle.fault.specs.Fault.{is_lower_case, is_blank, digits_in, fault_among, fault_after, fault_of};
+ghost use Rattle.std.specs.Prelude.{◌≡◌, length, take, take_while};
+ghost use Rattle.std.specs.Option.{is_some};
+ghost use Rattle.transcript.specs.Digit.{digit_value};
+ghost use Rattle.fault.specs.Fault.{is_lower_case, is_blank, digits_in, fault_among, fault_after, fault_behind, fault_of};
 
-use base::logic::{and, or};
-use transcript::digit::{DIGITS, digit_of};
+use transcript::digit::digit_value;
 use transcript::frame::LF;
 
-#[derive(Clone, Copy)]
+#[derive(Clone, Copy, Debug, PartialEq, Eq)]
 pub enum Fault {
-    // Four digits and LF.
-    NoFault,
     EmptyLine,
     TooShort,
     LowerCase,
@@ -34,77 +33,66 @@ const TAB: u8 = 9;
 fn is_lower_case(byte: u8) -> bool
     ensures { result ≡ is_lower_case byte }
 {
-    and(b'a' <= byte, byte <= b'f')
+    matches!(byte, b'a'..=b'f')
 }
 
 fn is_blank(byte: u8) -> bool
     ensures { result ≡ is_blank byte }
 {
-    or(byte == b' ', byte == TAB)
+    matches!(byte, b' ' | TAB)
 }
 
 // How many digits the line begins with, at most four.
 fn digits_in(line: &[u8]) -> usize
-    ensures { result ≡ digits_in 4 line.now }
+    ensures { result ≡ length (take_while (λ b. is_some (digit_value b)) (take 4 line.now)) }
 {
-    let mut n: usize = 0;
-    while n < LINE_DIGITS {
-        if line.len() <= n {
-            return n;
-        }
-        if DIGITS <= digit_of(line[n]) {
-            return n;
-        }
-        n += 1;
-    }
-    n
+    line.iter()
+        .take(LINE_DIGITS)
+        .take_while(|byte| digit_value(**byte).is_some())
+        .count()
 }
 
 // A byte that is no digit, where there should be one.
 fn fault_among(digits: usize, byte: u8) -> Fault
     ensures { result ≡ fault_among digits byte }
 {
-    if byte == LF {
-        if digits == 0 {
-            return Fault::EmptyLine;
-        }
-        return Fault::TooShort;
+    match byte {
+        LF if digits == 0 => Fault::EmptyLine,
+        LF => Fault::TooShort,
+        CR => Fault::ReturnByte,
+        _ if is_lower_case(byte) => Fault::LowerCase,
+        _ if is_blank(byte) => Fault::BlankByte,
+        _ => Fault::NoDigit,
     }
-    if byte == CR {
-        return Fault::ReturnByte;
-    }
-    if is_lower_case(byte) {
-        return Fault::LowerCase;
-    }
-    if is_blank(byte) {
-        return Fault::BlankByte;
-    }
-    Fault::NoDigit
 }
 
 // The byte after four digits.
-fn fault_after(byte: u8) -> Fault
+fn fault_after(byte: u8) -> Option<Fault>
     ensures { result ≡ fault_after byte }
 {
-    if byte == LF {
-        return Fault::NoFault;
+    match byte {
+        LF => None,
+        CR => Some(Fault::ReturnByte),
+        _ => Some(Fault::TooLong),
     }
-    if byte == CR {
-        return Fault::ReturnByte;
-    }
-    Fault::TooLong
 }
 
-// Of the line at the start of a text. The first byte that is wrong decides.
-pub fn fault_of(line: &[u8]) -> Fault
+// By the number of digits before the first byte that is none.
+fn fault_behind(digits: usize, line: &[u8]) -> Option<Fault>
+    ensures { result ≡ fault_behind digits line.now }
+{
+    if line.len() <= digits {
+        Some(Fault::Unended)
+    } else if digits < LINE_DIGITS {
+        Some(fault_among(digits, line[digits]))
+    } else {
+        fault_after(line[digits])
+    }
+}
+
+// Of the line at the start of a text: none where it is four digits and LF. The first byte that is wrong decides.
+pub fn fault_of(line: &[u8]) -> Option<Fault>
     ensures { result ≡ fault_of line.now }
 {
-    let n = digits_in(line);
-    if line.len() <= n {
-        return Fault::Unended;
-    }
-    if n < LINE_DIGITS {
-        return fault_among(n, line[n]);
-    }
-    fault_after(line[n])
+    fault_behind(digits_in(line), line)
 }

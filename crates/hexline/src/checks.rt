@@ -4,8 +4,7 @@ ghost use Rattle.refusal.specs.Checks.{first_of};
 ghost use Rattle.hexline.specs.Checks.{bad_length, unknown_type, past_array, record_checks};
 
 use crate::fields::{DATA, END, UPPER, count_in, first_address, is_framed, kind_in, sum_in};
-use base::logic::{and, or};
-use refusal::{Refusal, Verdict};
+use refusal::Refusal;
 
 // How many data bytes a record of type 04 has.
 const UPPER_BYTES: u8 = 2;
@@ -13,19 +12,17 @@ const UPPER_BYTES: u8 = 2;
 fn bad_length(rest: &[u8]) -> bool
     ensures { result ≡ bad_length rest.now }
 {
-    let kind = kind_in(rest);
-    let count = count_in(rest);
-    or(
-        and(kind == END, count != 0),
-        and(kind == UPPER, count != UPPER_BYTES),
-    )
+    match kind_in(rest) {
+        END => count_in(rest) != 0,
+        UPPER => count_in(rest) != UPPER_BYTES,
+        _ => false,
+    }
 }
 
 fn unknown_type(rest: &[u8]) -> bool
     ensures { result ≡ unknown_type rest.now }
 {
-    let kind = kind_in(rest);
-    !or(kind == DATA, or(kind == END, kind == UPPER))
+    !matches!(kind_in(rest), DATA | END | UPPER)
 }
 
 // Only bytes that the record names count.
@@ -33,26 +30,21 @@ fn past_array(rest: &[u8], size: usize, upper: u16) -> bool
     ensures { result ≡ past_array size upper rest.now }
 {
     let count = count_in(rest) as usize;
-    and(
-        kind_in(rest) == DATA,
-        and(0 < count, size < first_address(rest, upper) + count),
-    )
+    kind_in(rest) == DATA && 0 < count && size < first_address(rest, upper) + count
 }
 
-pub fn record_verdict(rest: &[u8], size: usize, upper: u16) -> Verdict
+pub fn record_verdict(rest: &[u8], size: usize, upper: u16) -> Result<(), Refusal>
     ensures { result ≡ first_of (record_checks size upper rest.now) }
 {
-    if or(!is_framed(rest), bad_length(rest)) {
-        return Verdict::Refused(Refusal::BadRecord);
+    if !is_framed(rest) || bad_length(rest) {
+        Err(Refusal::BadRecord)
+    } else if sum_in(rest) != 0 {
+        Err(Refusal::WrongSum)
+    } else if unknown_type(rest) {
+        Err(Refusal::UnknownType)
+    } else if past_array(rest, size, upper) {
+        Err(Refusal::PastArray)
+    } else {
+        Ok(())
     }
-    if sum_in(rest) != 0 {
-        return Verdict::Refused(Refusal::WrongSum);
-    }
-    if unknown_type(rest) {
-        return Verdict::Refused(Refusal::UnknownType);
-    }
-    if past_array(rest, size, upper) {
-        return Verdict::Refused(Refusal::PastArray);
-    }
-    Verdict::Passed
 }

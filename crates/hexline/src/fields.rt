@@ -1,11 +1,13 @@
 // The fields of a record, from the text from the record on: `:`, two digits for each byte (how many data bytes, the address in two, the
 // type, the data, a check byte), then LF or CR LF (request E1).
-ghost use Rattle.std.specs.Prelude.{◌≡◌, set};
-ghost use Rattle.hexline.specs.Fields.{char_at, byte_at, count_in, address_in, kind_in, upper_in, bytes_in, sum_in, end_at, end_size, line_size, all_digits, is_framed, first_address, put_data};
+ghost use Rattle.std.specs.Prelude.{◌≡◌};
+ghost use Rattle.std.specs.List.{list_all};
+ghost use Rattle.hexline.specs.Digit.{is_hex_digit};
+ghost use Rattle.hexline.specs.Fields.{char_at, byte_at, count_in, address_in, kind_in, upper_in, bytes_in, sum_in, end_at, end_size, line_size, is_framed, first_address, put_data};
 
 use crate::digit::{is_hex_digit, value_of};
-use base::logic::and;
-use base::word::{BYTE, word_of};
+use base::share::put;
+use base::word::word_of;
 use transcript::digit::DIGITS;
 use transcript::frame::LF;
 
@@ -13,7 +15,8 @@ pub const COLON: u8 = b':';
 
 const CR: u8 = 13;
 
-// The types that are read: data, the end, the upper 16 address bits.
+// The types that are read: data, the end, the upper 16 address bits. (Numbers, since `kind_in` answers any byte, and its
+// contract stays.)
 pub const DATA: u8 = 0;
 
 pub const END: u8 = 1;
@@ -41,7 +44,7 @@ pub const UPPER_STEP: usize = 65_536;
 fn char_at(rest: &[u8], i: usize) -> u8
     ensures { result ≡ char_at rest.now i }
 {
-    if i < rest.len() { rest[i] } else { 0 }
+    rest.get(i).copied().unwrap_or(0)
 }
 
 pub fn byte_at(rest: &[u8], i: u16) -> u8
@@ -84,14 +87,11 @@ fn bytes_in(rest: &[u8]) -> u16
 pub fn sum_in(rest: &[u8]) -> u8
     ensures { result ≡ sum_in rest.now }
 {
-    let n = bytes_in(rest);
-    let mut sum: u16 = 0;
-    let mut i: u16 = COUNT;
-    while i < n {
-        sum = (sum + byte_at(rest, i) as u16) % BYTE;
-        i += 1;
+    let mut sum: u8 = 0;
+    for i in COUNT..bytes_in(rest) {
+        sum = sum.wrapping_add(byte_at(rest, i));
     }
-    sum as u8
+    sum
 }
 
 fn end_at(rest: &[u8]) -> usize
@@ -105,14 +105,11 @@ fn end_size(rest: &[u8]) -> usize
     ensures { result ≡ end_size rest.now }
 {
     let at = end_at(rest);
-    let first = char_at(rest, at);
-    if first == LF {
-        return 1;
+    match char_at(rest, at) {
+        LF => 1,
+        CR if char_at(rest, at + 1) == LF => 2,
+        _ => 0,
     }
-    if and(first == CR, char_at(rest, at + 1) == LF) {
-        return 2;
-    }
-    0
 }
 
 pub fn line_size(rest: &[u8]) -> usize
@@ -121,27 +118,17 @@ pub fn line_size(rest: &[u8]) -> usize
     end_at(rest) + end_size(rest)
 }
 
-fn all_digits(rest: &[u8]) -> bool
-    ensures { result ≡ all_digits rest.now }
+fn all_digits(text: &[u8]) -> bool
+    ensures { result ≡ list_all is_hex_digit text.now }
 {
-    let n = 2 * bytes_in(rest) as usize;
-    let mut digits = true;
-    let mut i: usize = 0;
-    while i < n {
-        digits = and(is_hex_digit(char_at(rest, 1 + i)), digits);
-        i += 1;
-    }
-    digits
+    text.iter().all(|byte| is_hex_digit(*byte))
 }
 
-// A record stands here, whatever its type.
+// A record stands here, whatever its type. Where its line ends, its digits stand in the text.
 pub fn is_framed(rest: &[u8]) -> bool
     ensures { result ≡ is_framed rest.now }
 {
-    and(
-        char_at(rest, 0) == COLON,
-        and(all_digits(rest), 0 < end_size(rest)),
-    )
+    char_at(rest, 0) == COLON && 0 < end_size(rest) && all_digits(&rest[1..end_at(rest)])
 }
 
 // The array address of the first data byte.
@@ -151,24 +138,12 @@ pub fn first_address(rest: &[u8], upper: u16) -> usize
     upper as usize * UPPER_STEP + address_in(rest) as usize
 }
 
-// Past the array there is nothing to store to.
-fn put(byte: u8, at: usize, share: &mut [u8])
-    ensures { share.new ≡ set share.old at byte }
-{
-    if at < share.len() {
-        share[at] = byte;
-    }
-}
-
 // Stores the data bytes, on past FFFFh where there are as many.
 pub fn put_data(rest: &[u8], upper: u16, share: &mut [u8])
     ensures { share.new ≡ put_data upper rest.now share.old }
 {
     let first = first_address(rest, upper);
-    let n = count_in(rest) as u16;
-    let mut i: u16 = 0;
-    while i < n {
+    for i in 0..count_in(rest) as u16 {
         put(byte_at(rest, FIRST_DATA + i), first + i as usize, share);
-        i += 1;
     }
 }

@@ -1,11 +1,10 @@
 // A record as text: upper case, and LF (request E1).
-ghost use Rattle.std.specs.Prelude.{◌+◌, ◌*◌, ◌%◌, ◌≤◌, ◌≡◌, length};
+ghost use Rattle.std.specs.Prelude.{◌+◌, ◌*◌, ◌≤◌, ◌≡◌, length};
 ghost use Rattle.base.specs.Store.{patched};
 ghost use Rattle.print.specs.Print.{byte_text};
 ghost use Rattle.hexline.specs.Writing.{bytes_text, sum_with, check_of, head_of, record_text, put_record};
 
 use crate::fields::COLON;
-use base::word::BYTE;
 use print::{BYTE_DIGITS, byte_text};
 use transcript::frame::LF;
 
@@ -27,51 +26,37 @@ fn put_byte(byte: u8, text: &mut [u8], at: usize)
     requires { at + 2 ≤ length text.old }
     ensures { text.new ≡ patched at (byte_text byte) text.old }
 {
-    let digits = byte_text(byte);
-    text[at] = digits[0];
-    text[at + 1] = digits[1];
+    text[at..at + BYTE_DIGITS].copy_from_slice(&byte_text(byte));
 }
 
 fn put_bytes(bytes: &[u8], text: &mut [u8], at: usize)
     requires { at + 2 * length bytes.now ≤ length text.old }
     ensures { text.new ≡ patched at (bytes_text bytes.now) text.old }
 {
-    let mut i: usize = 0;
-    while i < bytes.len() {
-        put_byte(bytes[i], text, at + BYTE_DIGITS * i);
-        i += 1;
+    for (i, &byte) in bytes.iter().enumerate() {
+        put_byte(byte, text, at + BYTE_DIGITS * i);
     }
-}
-
-// Modulo 256.
-fn plus(sum: u8, byte: u8) -> u8
-    ensures { result ≡ (sum + byte) % 256 }
-{
-    ((sum as u16 + byte as u16) % BYTE) as u8
 }
 
 fn sum_with(bytes: &[u8], start: u8) -> u8
     ensures { result ≡ sum_with bytes.now start }
 {
-    let mut sum = start;
-    let mut i: usize = 0;
-    while i < bytes.len() {
-        sum = plus(sum, bytes[i]);
-        i += 1;
-    }
-    sum
+    bytes
+        .iter()
+        .fold(start, |sum, byte| sum.wrapping_add(*byte))
 }
 
 fn check_of(sum: u8) -> u8
     ensures { result ≡ check_of sum }
 {
-    ((BYTE - sum as u16) % BYTE) as u8
+    sum.wrapping_neg()
 }
 
 fn head_of(kind: u8, address: u16, count: u8) -> [u8; HEAD]
     ensures { result ≡ head_of kind address count }
 {
-    [count, (address / BYTE) as u8, (address % BYTE) as u8, kind]
+    let [high, low] = address.to_be_bytes();
+    [count, high, low, kind]
 }
 
 // A record that has room.
@@ -94,14 +79,7 @@ pub fn put_record(kind: u8, address: u16, content: &[u8], text: &mut [u8], at: u
     ensures { text.new ≡ put_record kind address content.now text.old at }
 {
     let count = content.len();
-    if MOST_DATA < count {
-        return;
+    if count <= MOST_DATA && BARE + BYTE_DIGITS * count <= text.len().saturating_sub(at) {
+        write_record(kind, address, content, text, at);
     }
-    if text.len() < at {
-        return;
-    }
-    if text.len() - at < BARE + BYTE_DIGITS * count {
-        return;
-    }
-    write_record(kind, address, content, text, at);
 }

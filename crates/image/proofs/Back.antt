@@ -18,12 +18,13 @@ use Rattle.base.specs.Store.{span, patched}
 use Rattle.base.specs.Word.{high_of, low_of}
 use Rattle.base.proofs.Store.{span_length, patched_length, patched_on}
 use Rattle.base.proofs.Every.{every_span}
-use Rattle.refusal.specs.declared.Verdict.TheVariants.{Passed}
+use Rattle.std.specs.Prelude.{Ok}
 use Rattle.hexline.specs.Fields.{data_kind, end_kind, upper_kind, upper_in, first_address, put_data}
 use Rattle.hexline.specs.Checks.{bad_length, unknown_type, past_array}
 use Rattle.hexline.specs.Writing.{record_text, record_size}
 use Rattle.hexline.proofs.fields.Laws.{put_data_patched}
 use Rattle.hexline.proofs.Back.{ReadsBack, record_length, reads_back}
+use Rattle.image.specs.declared.loading.Progress.TheVariants.{Open, Ended}
 use Rattle.image.specs.declared.loading.Reading.{Reading}
 use Rattle.image.specs.Reading.{reads_on, rest_at, verdict_at, next_reading, scanned}
 use Rattle.image.specs.Storing.{Storing, next_storing, store_on, storing_after, stored}
@@ -34,7 +35,7 @@ use Rattle.image.proofs.saving.Laws.{row_new, row_same, rows_next, saved_is}
 
 -- a reading that goes on, at a place
 abbrev reading : ℕ → ℕ → ℕ → Reading
-reading at upper lines = record { at = at; upper = upper; lines = lines; ended = false; verdict = Passed }
+reading at upper lines = record { at = at; upper = upper; lines = lines; progress = Open }
 
 -- the text behind a row
 pub behind_row : (share : List ℕ) (n i : ℕ) (after : List ℕ) → i < n → (tail : List ℕ) × (rows_text share n ++ after ≡ rows_text share i ++ (row_text share i ++ tail))
@@ -57,8 +58,7 @@ behind before content after kind address upper lines share =
         at = length before + record_size (length content);
         upper = cond (eqb kind upper_kind) (upper_in rest) upper;
         lines = lines + 1;
-        ended = eqb kind end_kind;
-        verdict = Passed;
+        progress = cond (eqb kind end_kind) Ended Open;
       },
       cond (eqb kind data_kind) (put_data upper rest share) share,
     )
@@ -80,10 +80,10 @@ module _ (size : ℕ) (before content after : List ℕ) (kind address upper line
       lt-ltb _ _ inside
 
   -- it passes where its type is one that is read, with the length that this type has, and it names no address past the array
-  passes_here : bad_length rest ≡ false → unknown_type rest ≡ false → past_array size upper rest ≡ false → verdict_at size (before ++ rest) here ≡ Passed
+  passes_here : bad_length rest ≡ false → unknown_type rest ≡ false → past_array size upper rest ≡ false → verdict_at size (before ++ rest) here ≡ Ok tt
   passes_here long known inside = rw (rest_is, back.framed, long, eq-eqb _ _ back.sums, known, inside)
 
-  step_here : verdict_at size (before ++ rest) here ≡ Passed → (share : List ℕ)
+  step_here : verdict_at size (before ++ rest) here ≡ Ok tt → (share : List ℕ)
       → next_storing size (before ++ rest) (here, share) ≡ behind before content after kind address upper lines share
   unfolding next_storing next_reading
   step_here passes share = rw (passes, rest_is, back.kinds, back.sizes)
@@ -124,7 +124,7 @@ upper_more text share before after upper lines new is fits so_far reached =
 
 end_more : (text share before : List ℕ) (upper lines : ℕ) → text ≡ before ++ end_text → (so_far : List ℕ)
     → Reached text share (reading (length before) upper lines, so_far)
-    → Reached text share (record { at = length before + 12; upper = upper; lines = lines + 1; ended = true; verdict = Passed }, so_far)
+    → Reached text share (record { at = length before + 12; upper = upper; lines = lines + 1; progress = Ended }, so_far)
 end_more text share before upper lines is so_far reached =
     let back = reads_back end_kind 0 [] [] (omega arith) (omega arith) (omega arith) tt in
     one_more text share before [] [] end_kind 0 upper lines (is ∙ ap (λ (end : List ℕ). before ++ end) (sym (append-nil end_text))) back (rw (back.kinds, back.counts)) (rw back.kinds) (rw back.kinds) so_far reached
@@ -257,7 +257,7 @@ module _ (share other : List ℕ) (alike : length other ≡ length share) (whole
   at_rows (suc i) most = rw add-one at (row_more i (omega arith) (at_rows i (omega arith)))
 
   -- and the end record
-  at_end : (lines : ℕ) × Reached (saved_text share) other (record { at = length (saved_text share); upper = upper_of (rows - 1); lines = lines; ended = true; verdict = Passed }, share)
+  at_end : (lines : ℕ) × Reached (saved_text share) other (record { at = length (saved_text share); upper = upper_of (rows - 1); lines = lines; progress = Ended }, share)
   at_end =
       let (lines, reached) = at_rows rows (omega arith) in
       let (n, is) = end_more (saved_text share) other (rows_text share rows) (upper_of (rows - 1)) lines (saved_is share) (with_rows rows) reached in
@@ -272,8 +272,8 @@ module _ (share other : List ℕ) (alike : length other ≡ length share) (whole
         (
           n,
           is
-              ∙ ap (λ (at : ℕ). (record { at = at; upper = upper_of (rows - 1); lines = lines + 1; ended = true; verdict = Passed }, with_rows rows)) long
-              ∙ ap (λ (so_far : List ℕ). (record { at = length (saved_text share); upper = upper_of (rows - 1); lines = lines + 1; ended = true; verdict = Passed }, so_far)) all,
+              ∙ ap (λ (at : ℕ). (record { at = at; upper = upper_of (rows - 1); lines = lines + 1; progress = Ended }, with_rows rows)) long
+              ∙ ap (λ (so_far : List ℕ). (record { at = length (saved_text share); upper = upper_of (rows - 1); lines = lines + 1; progress = Ended }, so_far)) all,
         ),
       )
 
@@ -284,7 +284,7 @@ module _ (share other : List ℕ) (alike : length other ≡ length share) (whole
       let (lines, (n, is)) = at_end in
       let stops : reads_on (saved_text share) (storing_after (saved_text share) other n).0 ≡ false = rw is in
       let Alike-read = reads_alike (saved_text share) other n in
-      let read : scanned (length other) (saved_text share) ≡ record { at = length (saved_text share); upper = upper_of (rows - 1); lines = lines; ended = true; verdict = Passed } =
+      let read : scanned (length other) (saved_text share) ≡ record { at = length (saved_text share); upper = upper_of (rows - 1); lines = lines; progress = Ended } =
       sym (scanned_is (length other) (saved_text share) n (rw (← Alike-read) stops)) ∙ sym Alike-read ∙ ap (λ (s : Storing). s.0) is
       in
       let kept : stored (saved_text share) other ≡ share = sym (stored_is (saved_text share) other n stops) ∙ ap (λ (s : Storing). s.1) is in

@@ -9,8 +9,8 @@ use Rattle.base.specs.Every.{FitsByte, AllBytes}
 use Rattle.base.proofs.Every.{every_span}
 use Rattle.parts.specs.Part.{geometry_of}
 use Rattle.parts.proofs.part.Laws.{sound_of}
-use Rattle.refusal.specs.declared.Verdict.{Verdict}
-use Rattle.refusal.specs.declared.Verdict.TheVariants.{Passed, Refused}
+use Rattle.refusal.specs.Verdict.{Verdict}
+use Rattle.std.specs.Prelude.{Ok, Err}
 use Rattle.refusal.specs.Checks.{first_of}
 use Rattle.board.specs.declared.Place.{Place}
 use Rattle.board.specs.Place.{place_at}
@@ -22,7 +22,7 @@ use Rattle.bus.specs.Step.{chip_checks}
 use Rattle.bus.proofs.Entry.{Named, named}
 use Rattle.image.specs.Load.{loaded, with_share, load}
 use Rattle.image.specs.Rows.{saved_text}
-use Rattle.image.specs.Save.{save_checks, save_share, save_by, save}
+use Rattle.image.specs.Save.{Saved, save_verdict, save_checks, save_share, save_by, save}
 use Rattle.image.proofs.Back.{share_back}
 use Rattle.image.proofs.share.Laws.{share_length}
 use Rattle.image.proofs.saving.Laws.{save_named, saved_share}
@@ -35,15 +35,20 @@ part_at bus k = (place_at (places_of bus.chips) k).part
 abbrev pub share_at : Bus → List ℕ → ℕ → List ℕ
 share_at bus array k = array_share (places_of bus.chips) k array
 
--- saving says what its checks say
-pub says : (verdict : Verdict) (places : List Place) (array : List ℕ) (k : ℕ) (buffer : List ℕ) → (save_by verdict places array k buffer).0.verdict ≡ verdict
-says Passed places array k buffer = refl
-says (Refused refusal) places array k buffer = refl
+-- how many bytes were written
+abbrev count_of : Saved → ℕ
+count_of (Ok count) = count
+count_of (Err refusal) = 0
 
-module _ (bus : Bus) (array security : List ℕ) (k : ℕ) (buffer : List ℕ) (passes : (save bus array security k buffer).0.verdict ≡ Passed) where
-  checks_pass : first_of (save_checks bus array security k buffer) ≡ Passed
+-- saving says what its checks say
+pub says : (verdict : Verdict) (places : List Place) (array : List ℕ) (k : ℕ) (buffer : List ℕ) → save_verdict (save_by verdict places array k buffer).0 ≡ verdict
+says (Ok tt) places array k buffer = refl
+says (Err refusal) places array k buffer = refl
+
+module _ (bus : Bus) (array security : List ℕ) (k : ℕ) (buffer : List ℕ) (count : ℕ) (passes : (save bus array security k buffer).0 ≡ Ok count) where
+  checks_pass : first_of (save_checks bus array security k buffer) ≡ Ok tt
   unfolding save
-  checks_pass = sym (says (first_of (save_checks bus array security k buffer)) (places_of bus.chips) array k buffer) ∙ passes
+  checks_pass = sym (says (first_of (save_checks bus array security k buffer)) (places_of bus.chips) array k buffer) ∙ ap save_verdict passes
 
   pub is_named_lem : Named bus array security k
   is_named_lem = save_named bus array security k buffer checks_pass
@@ -51,14 +56,18 @@ module _ (bus : Bus) (array security : List ℕ) (k : ℕ) (buffer : List ℕ) (
   pub saved_as : save bus array security k buffer ≡ save_share (share_at bus array k) buffer
   saved_as = saved_share bus array security k buffer checks_pass
 
+  -- as many bytes as the text has
+  pub written_count : length (saved_text (share_at bus array k)) ≡ count
+  written_count = ap count_of (sym (ap (λ (end : Saved × List ℕ). end.0) saved_as) ∙ passes)
+
   -- the text that was written: so many bytes from the buffer's start
   abbrev pub written : List ℕ
-  written = take (save bus array security k buffer).0.written (save bus array security k buffer).1
+  written = take count (save bus array security k buffer).1
 
   written_is : written ≡ saved_text (share_at bus array k)
-  written_is = rw saved_as (take-append_seam (saved_text (share_at bus array k)) _)
+  written_is = rw (sym written_count, saved_as) (take-append_seam (saved_text (share_at bus array k)) _)
 
-  pub saved_loads_back : AllBytes array → (bus' : Bus) (array' security' : List ℕ) (k' : ℕ) → first_of (chip_checks bus' array' security' k') ≡ Passed
+  pub saved_loads_back : AllBytes array → (bus' : Bus) (array' security' : List ℕ) (k' : ℕ) → first_of (chip_checks bus' array' security' k') ≡ Ok tt
       → part_at bus' k' ≡ part_at bus k
       → load bus' array' security' k' written ≡ (loaded, with_share (places_of bus'.chips) k' array' (share_at bus array k))
   unfolding load

@@ -17,10 +17,9 @@ use Rattle.hexline.specs.Digit.{value_of}
 use Rattle.hexline.specs.Fields.{data_kind, byte_at, is_framed, put_data}
 use Rattle.hexline.specs.Checks.{record_checks}
 use Rattle.hexline.specs.Writing.{record_text}
-use Rattle.image.specs.declared.loading.Loaded.{Loaded}
 use Rattle.image.specs.Reading.{next_reading, read_on, reading_after, text_verdict}
 use Rattle.image.specs.Storing.{next_storing, store_on, stored, stores_at, byte_for}
-use Rattle.image.specs.Load.{loaded, load_share}
+use Rattle.image.specs.Load.{Loaded, loaded, load_verdict, line_of, load_share}
 use Rattle.image.specs.Rows.{upper_changes, upper_text, row_text, saved_text, saved_size}
 
 -- the bytes of a text of plain characters
@@ -37,7 +36,7 @@ loads_to text = load_share (text_of text) blank
 
 -- the number and the line
 abbrev answered : Loaded × List ℕ → ℕ × ℕ × List ℕ
-answered (said, share) = (status_of said.verdict, said.line, share)
+answered (said, share) = (status_of (load_verdict said), line_of said, share)
 
 pub taken : List (String × List ℕ)
 taken =

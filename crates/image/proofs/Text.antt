@@ -3,7 +3,7 @@
 use Prim.Native.Nat.{ℕ, zero, suc, ◌+◌, ◌≤◌, ◌<◌}
 use native.Mathlib.Decide.{dec_le}
 use native.Mathlib.Omega.{arith}
-use mathlib.Core.Bool.{Bool, true, false, cond, not, ◌&&◌, false≢true, true≢false}
+use mathlib.Core.Bool.{Bool, true, false, cond, ◌&&◌, false≢true, true≢false}
 use mathlib.Core.List.{List}
 use mathlib.Core.Logic.{◌↔◌}
 use mathlib.Core.Path.{◌≡◌, ◌∙◌, refl, sym, ap}
@@ -14,19 +14,19 @@ use Rattle.base.specs.Fold.{up_to}
 use Rattle.base.proofs.logic.Laws.{and_left, and_right, and_both}
 use Rattle.refusal.specs.declared.Refusal.{Refusal}
 use Rattle.refusal.specs.declared.Refusal.TheVariants.{NoEnd}
-use Rattle.refusal.specs.declared.Verdict.{Verdict}
-use Rattle.refusal.specs.declared.Verdict.TheVariants.{Passed, Refused}
+use Rattle.refusal.specs.Verdict.{Verdict}
+use Rattle.std.specs.Prelude.{Ok, Err}
 use Rattle.refusal.specs.Refusal.{number_of, status_of}
-use Rattle.refusal.specs.Checks.{is_passed}
+use Rattle.std.specs.Result.{is_ok}
 use Rattle.refusal.proofs.Checks.{Checks, Given, NoneHolds, given_exactly_when, passed_exactly_when, status_passed}
 use Rattle.bus.proofs.Entry.{passed}
 use Rattle.hexline.specs.Fields.{data_kind, end_kind, count_in, kind_in, line_size, first_address, put_data}
 use Rattle.hexline.specs.Checks.{record_checks}
 use Rattle.hexline.proofs.fields.Laws.{put_data_named, put_data_unnamed}
 use Rattle.image.specs.declared.loading.Reading.{Reading}
-use Rattle.image.specs.Reading.{reads_on, rest_at, stopped, read_by, verdict_at, next_reading, read_on, reading_after, scanned, verdict_by, text_verdict}
+use Rattle.image.specs.Reading.{is_open, has_ended, said_by, reads_on, rest_at, past, stopped, read_by, verdict_at, next_reading, read_on, reading_after, scanned, verdict_by, text_verdict}
 use Rattle.image.specs.Storing.{Storing, is_stored, next_storing, store_on, storing_after, stored, names, stores_at, byte_for}
-use Rattle.image.proofs.loading.Laws.{reads_inside, after_sane, lines_read, scanned_is, reads_alike, storing_length}
+use Rattle.image.proofs.loading.Laws.{open_by, passes_by, reads_inside, after_sane, lines_read, scanned_is, reads_alike, storing_length}
 
 -- the checks of the record that is to be read
 abbrev pub checks_at : ℕ → List ℕ → Reading → Checks
@@ -38,15 +38,15 @@ NoneRefused size text = (i : ℕ) → reads_on text (reading_after size text i) 
 
 -- the end record came, and nothing stands behind it
 abbrev pub Complete : ℕ → List ℕ → Type 0
-Complete size text = ((scanned size text).ended ≡ true) × ((scanned size text).at ≡ length text)
+Complete size text = (has_ended (scanned size text).progress ≡ true) × ((scanned size text).at ≡ length text)
 
 -- a verdict with a number other than 0 is that refusal
-refused_by : (verdict : Verdict) (n : ℕ) → 0 < n → status_of verdict ≡ n → (refusal : Refusal) × (verdict ≡ Refused refusal) × (number_of refusal ≡ n)
-refused_by Passed n some is = absurd (omega (arith, is))
-refused_by (Refused refusal) n some is = (refusal, refl, is)
+refused_by : (verdict : Verdict) (n : ℕ) → 0 < n → status_of verdict ≡ n → (refusal : Refusal) × (verdict ≡ Err refusal) × (number_of refusal ≡ n)
+refused_by (Ok tt) n some is = absurd (omega (arith, is))
+refused_by (Err refusal) n some is = (refusal, refl, is)
 
 abbrev verdict_of_lem : Reading → Verdict
-verdict_of_lem reading = reading.verdict
+verdict_of_lem reading = said_by reading.progress
 
 module _ (size : ℕ) (text : List ℕ) where
   abbrev at : ℕ → Reading
@@ -70,13 +70,13 @@ module _ (size : ℕ) (text : List ℕ) where
           → reads_on text (cond on (read_by verdict (rest_at text (at i)) (at i)) (at i)) ≡ true
           → (reads_on text (at i) ≡ true) × NoneHolds (checks_at size text (at i)) × (kind_in (rest_at text (at i)) ≡ end_kind → ⊥)
           × ((at i).at + line_size (rest_at text (at i)) < length text)
-      to true on Passed said next = (
+      to true on (Ok tt) said next = (
         on,
         (passed_exactly_when (checks_at size text (at i))).0 (ap status_of said),
-        eqb-false _ _ (not-true _ (and_left (not (eqb (kind_in (rest_at text (at i))) end_kind)) _ next)),
-        ltb-true _ _ (and_right (not (eqb (kind_in (rest_at text (at i))) end_kind)) _ next),
+        eqb-false _ _ (not-true _ (sym (open_by (eqb (kind_in (rest_at text (at i))) end_kind)) ∙ and_left (is_open (past (rest_at text (at i)) (at i)).progress) _ next)),
+        ltb-true _ _ (and_right (is_open (past (rest_at text (at i)) (at i)).progress) _ next),
       )
-      to true on (Refused refusal) said next = absurd (false≢true next)
+      to true on (Err refusal) said next = absurd (false≢true next)
       to false off verdict said next = absurd (false≢true (sym off ∙ next))
 
       from : (reads_on text (at i) ≡ true) × NoneHolds (checks_at size text (at i)) × (kind_in (rest_at text (at i)) ≡ end_kind → ⊥)
@@ -87,27 +87,28 @@ module _ (size : ℕ) (text : List ℕ) where
           rw (on, passes, ne_eqb _ _ other, lt-ltb _ _ left)
 
   given_refused : (reading : Reading) (n : ℕ) → 0 < n → Given (checks_at size text reading) n
-      → (refusal : Refusal) × (verdict_at size text reading ≡ Refused refusal) × (number_of refusal ≡ n)
+      → (refusal : Refusal) × (verdict_at size text reading ≡ Err refusal) × (number_of refusal ≡ n)
   given_refused reading n some given =
       refused_by (verdict_at size text reading) n some ((given_exactly_when (checks_at size text reading) refl n some).1 given)
 
   -- a reading that was refused was refused at some record
-  refused_at_lem : (n : ℕ) (refusal : Refusal) → (at n).verdict ≡ Refused refusal
-      → (i : ℕ) × (reads_on text (at i) ≡ true) × (verdict_at size text (at i) ≡ Refused refusal)
+  refused_at_lem : (n : ℕ) (refusal : Refusal) → said_by (at n).progress ≡ Err refusal
+      → (i : ℕ) × (reads_on text (at i) ≡ true) × (verdict_at size text (at i) ≡ Err refusal)
   unfolding up_to read_on next_reading
-  refused_at_lem zero refusal is = absurd (true≢false (ap is_passed is))
+  refused_at_lem zero refusal is = absurd (true≢false (ap is_ok is))
   refused_at_lem (suc n) refusal is = go (reads_on text (at n)) refl (verdict_at size text (at n)) refl is (refused_at_lem n refusal)
     where
       go : (on : Bool) → reads_on text (at n) ≡ on → (verdict : Verdict) → verdict_at size text (at n) ≡ verdict
-          → (cond on (read_by verdict (rest_at text (at n)) (at n)) (at n)).verdict ≡ Refused refusal
-          → ((at n).verdict ≡ Refused refusal → (i : ℕ) × (reads_on text (at i) ≡ true) × (verdict_at size text (at i) ≡ Refused refusal))
-          → (i : ℕ) × (reads_on text (at i) ≡ true) × (verdict_at size text (at i) ≡ Refused refusal)
-      go true on Passed said now earlier = absurd (true≢false (ap is_passed now))
-      go true on (Refused other) said now earlier = (n, on, said ∙ now)
+          → said_by (cond on (read_by verdict (rest_at text (at n)) (at n)) (at n)).progress ≡ Err refusal
+          → (said_by (at n).progress ≡ Err refusal → (i : ℕ) × (reads_on text (at i) ≡ true) × (verdict_at size text (at i) ≡ Err refusal))
+          → (i : ℕ) × (reads_on text (at i) ≡ true) × (verdict_at size text (at i) ≡ Err refusal)
+      go true on (Ok tt) said now earlier =
+          absurd (true≢false (ap is_ok (sym (passes_by (eqb (kind_in (rest_at text (at n))) end_kind)) ∙ now)))
+      go true on (Err other) said now earlier = (n, on, said ∙ now)
       go false off verdict said now earlier = earlier now
 
   -- and reading ends there
-  refused_ends : (i : ℕ) (refusal : Refusal) → reads_on text (at i) ≡ true → verdict_at size text (at i) ≡ Refused refusal
+  refused_ends : (i : ℕ) (refusal : Refusal) → reads_on text (at i) ≡ true → verdict_at size text (at i) ≡ Err refusal
       → scanned size text ≡ stopped refusal (at i)
   unfolding up_to read_on next_reading
   refused_ends i refusal on said =
@@ -115,32 +116,32 @@ module _ (size : ℕ) (text : List ℕ) where
       sym (scanned_is size text (suc i) (rw next)) ∙ next
 
   -- the records that are read pass exactly where reading did
-  passed_none : (scanned size text).verdict ≡ Passed → NoneRefused size text
+  passed_none : said_by (scanned size text).progress ≡ Ok tt → NoneRefused size text
   passed_none passes i on = go (verdict_at size text (at i)) refl
     where
       go : (verdict : Verdict) → verdict_at size text (at i) ≡ verdict → NoneHolds (checks_at size text (at i))
-      go Passed said = (passed_exactly_when (checks_at size text (at i))).0 (ap status_of said)
-      go (Refused refusal) said = absurd (true≢false (ap is_passed (sym passes ∙ ap verdict_of_lem (refused_ends i refusal on said))))
+      go (Ok tt) said = (passed_exactly_when (checks_at size text (at i))).0 (ap status_of said)
+      go (Err refusal) said = absurd (true≢false (ap is_ok (sym passes ∙ ap verdict_of_lem (refused_ends i refusal on said))))
 
-  none_passed : NoneRefused size text → (scanned size text).verdict ≡ Passed
-  none_passed none = go (scanned size text).verdict refl
+  none_passed : NoneRefused size text → said_by (scanned size text).progress ≡ Ok tt
+  none_passed none = go (said_by (scanned size text).progress) refl
     where
-      go : (verdict : Verdict) → (scanned size text).verdict ≡ verdict → verdict ≡ Passed
-      go Passed said = refl
-      go (Refused refusal) said =
+      go : (verdict : Verdict) → said_by (scanned size text).progress ≡ verdict → verdict ≡ Ok tt
+      go (Ok tt) said = refl
+      go (Err refusal) said =
           let (i, on, refused) = refused_at_lem (length text) refusal said in
           let passes = status_passed (verdict_at size text (at i)) ((passed_exactly_when (checks_at size text (at i))).1 (none i on)) in
-          absurd (true≢false (ap is_passed (sym passes ∙ refused)))
+          absurd (true≢false (ap is_ok (sym passes ∙ refused)))
 
   -- the test of the end
   abbrev ends : Bool
-  ends = (scanned size text).ended && eqb (scanned size text).at (length text)
+  ends = has_ended (scanned size text).progress && eqb (scanned size text).at (length text)
 
   ends_complete : ends ≡ true → Complete size text
-  ends_complete is = (and_left (scanned size text).ended _ is, eqb-true _ _ (and_right (scanned size text).ended _ is))
+  ends_complete is = (and_left (has_ended (scanned size text).progress) _ is, eqb-true _ _ (and_right (has_ended (scanned size text).progress) _ is))
 
   complete_ends : Complete size text → ends ≡ true
-  complete_ends (ended, all) = and_both (scanned size text).ended _ ended (eq-eqb _ _ all)
+  complete_ends (ended, all) = and_both (has_ended (scanned size text).progress) _ ended (eq-eqb _ _ all)
 
   abbrev said_by_lem : Verdict → ℕ
   said_by_lem verdict = status_of (verdict_by verdict text (scanned size text))
@@ -148,16 +149,16 @@ module _ (size : ℕ) (text : List ℕ) where
   -- 20 to 23: a record that is read is refused with that number
   pub text_exactly_when : (n : ℕ) → 0 < n → (n ≡ 24 → ⊥)
       → (status_of (text_verdict size text) ≡ n) ↔ ((i : ℕ) × (reads_on text (reading_after size text i) ≡ true) × Given (checks_at size text (reading_after size text i)) n)
-  text_exactly_when n some other = (to (scanned size text).verdict refl, from)
+  text_exactly_when n some other = (to (said_by (scanned size text).progress) refl, from)
     where
-      by_end : (test : Bool) → status_of (cond test Passed (Refused NoEnd)) ≡ n → ⊥
+      by_end : (test : Bool) → status_of (cond test (Ok tt) (Err NoEnd)) ≡ n → ⊥
       by_end true is = omega (arith, is)
       by_end false is = other (sym is)
 
-      to : (verdict : Verdict) → (scanned size text).verdict ≡ verdict → said_by_lem verdict ≡ n
+      to : (verdict : Verdict) → said_by (scanned size text).progress ≡ verdict → said_by_lem verdict ≡ n
           → (i : ℕ) × (reads_on text (at i) ≡ true) × Given (checks_at size text (at i)) n
-      to Passed said is = absurd (by_end ends is)
-      to (Refused refusal) said is =
+      to (Ok tt) said is = absurd (by_end ends is)
+      to (Err refusal) said is =
           let (i, on, refused) = refused_at_lem (length text) refusal said in
           (i, on, (given_exactly_when (checks_at size text (at i)) refl n some).0 (ap status_of refused ∙ is))
 
@@ -175,16 +176,16 @@ module _ (size : ℕ) (text : List ℕ) where
 
   -- 24: no record is refused, but there is no end record, or text stands behind it
   pub no_end_exactly_when : (status_of (text_verdict size text) ≡ 24) ↔ (NoneRefused size text × (Complete size text → ⊥))
-  no_end_exactly_when = (to (scanned size text).verdict refl, from)
+  no_end_exactly_when = (to (said_by (scanned size text).progress) refl, from)
     where
-      to : (verdict : Verdict) → (scanned size text).verdict ≡ verdict → said_by_lem verdict ≡ 24 → NoneRefused size text × (Complete size text → ⊥)
-      to Passed said is = (passed_none said, λ complete. omega (arith, rw (complete_ends complete) at is))
-      to (Refused refusal) said is =
+      to : (verdict : Verdict) → said_by (scanned size text).progress ≡ verdict → said_by_lem verdict ≡ 24 → NoneRefused size text × (Complete size text → ⊥)
+      to (Ok tt) said is = (passed_none said, λ complete. omega (arith, rw (complete_ends complete) at is))
+      to (Err refusal) said is =
           let (i, on, refused) = refused_at_lem (length text) refusal said in
           let given = (given_exactly_when (checks_at size text (at i)) refl 24 (omega arith)).0 (ap status_of refused ∙ is) in
           absurd given.1.1.1.1
 
-      by_end : (test : Bool) → (test ≡ true → ⊥) → status_of (cond test Passed (Refused NoEnd)) ≡ 24
+      by_end : (test : Bool) → (test ≡ true → ⊥) → status_of (cond test (Ok tt) (Err NoEnd)) ≡ 24
       by_end true bad = absurd (bad refl)
       by_end false bad = refl
 
@@ -193,15 +194,15 @@ module _ (size : ℕ) (text : List ℕ) where
 
   -- 0: no record is refused, the end record came, and nothing stands behind it
   pub text_passes_exactly_when : (status_of (text_verdict size text) ≡ 0) ↔ (NoneRefused size text × Complete size text)
-  text_passes_exactly_when = (to (scanned size text).verdict refl, from)
+  text_passes_exactly_when = (to (said_by (scanned size text).progress) refl, from)
     where
-      by_end : (test : Bool) → status_of (cond test Passed (Refused NoEnd)) ≡ 0 → test ≡ true
+      by_end : (test : Bool) → status_of (cond test (Ok tt) (Err NoEnd)) ≡ 0 → test ≡ true
       by_end true is = refl
       by_end false is = absurd (omega (arith, is))
 
-      to : (verdict : Verdict) → (scanned size text).verdict ≡ verdict → said_by_lem verdict ≡ 0 → NoneRefused size text × Complete size text
-      to Passed said is = (passed_none said, ends_complete (by_end ends is))
-      to (Refused refusal) said is = absurd (true≢false (ap is_passed (sym (status_passed (Refused refusal) is))))
+      to : (verdict : Verdict) → said_by (scanned size text).progress ≡ verdict → said_by_lem verdict ≡ 0 → NoneRefused size text × Complete size text
+      to (Ok tt) said is = (passed_none said, ends_complete (by_end ends is))
+      to (Err refusal) said is = absurd (true≢false (ap is_ok (sym (status_passed (Err refusal) is))))
 
       from : NoneRefused size text × Complete size text → status_of (text_verdict size text) ≡ 0
       from (none, complete) = ap said_by_lem (none_passed none) ∙ rw (complete_ends complete)
@@ -232,11 +233,11 @@ module _ (size : ℕ) (text : List ℕ) (reading : Reading) (j : ℕ) (stores : 
   stored_inside : j < size
   stored_inside = go (ltb size (first + count_in rest)) refl
     where
-      passes : verdict_at size text reading ≡ Passed
-      passes = passed (verdict_at size text reading) (and_left (is_passed (verdict_at size text reading)) _ is_stored_lem)
+      passes : verdict_at size text reading ≡ Ok tt
+      passes = passed (verdict_at size text reading) (and_left (is_ok (verdict_at size text reading)) _ is_stored_lem)
 
       is_data : eqb (kind_in rest) data_kind ≡ true
-      is_data = and_right (is_passed (verdict_at size text reading)) _ is_stored_lem
+      is_data = and_right (is_ok (verdict_at size text reading)) _ is_stored_lem
 
       go : (past : Bool) → ltb size (first + count_in rest) ≡ past → j < size
       go true past =

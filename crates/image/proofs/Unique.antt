@@ -3,8 +3,8 @@
 use Prim.Native.Nat.{ℕ}
 use mathlib.Core.List.{List}
 use Rattle.base.proofs.Unique.{Unique, UniqueOutcome, same}
-use Rattle.image.specs.declared.loading.Loaded.{Loaded}
-use Rattle.image.specs.declared.saving.Saved.{Saved}
+use Rattle.image.specs.Load.{Loaded}
+use Rattle.image.specs.Save.{Saved}
 use Rattle.image.proofs.share.share_of.Kinds as share_of_kinds
 use Rattle.image.proofs.share.share_of.Reads as share_of_reads
 use Rattle.image.proofs.loading.load.Kinds as load_kinds

@@ -1,22 +1,42 @@
 -- A file is read record by record, from upper address bits 0, up to the first record that is refused or the end record (request E1).
-use Rattle.std.specs.Prelude.{ℕ, ◌+◌, Bool, false, cond, not, ◌&&◌, List, eqb, ltb, length, drop}
+use Rattle.std.specs.Prelude.{ℕ, ◌+◌, Bool, true, false, cond, ◌&&◌, List, eqb, ltb, length, drop}
 use Rattle.base.specs.Fold.{up_to}
 use Rattle.refusal.specs.declared.Refusal.{Refusal}
 use Rattle.refusal.specs.declared.Refusal.TheVariants.{NoEnd}
-use Rattle.refusal.specs.declared.Verdict.{Verdict}
-use Rattle.refusal.specs.declared.Verdict.TheVariants.{Passed, Refused}
-use Rattle.refusal.specs.Checks.{first_of, is_passed}
+use Rattle.refusal.specs.Verdict.{Verdict}
+use Rattle.std.specs.Prelude.{Ok, Err}
+use Rattle.refusal.specs.Checks.{first_of}
 use Rattle.hexline.specs.Fields.{end_kind, upper_kind, kind_in, upper_in, line_size}
 use Rattle.hexline.specs.Checks.{record_checks}
+use Rattle.image.specs.declared.loading.Progress.{Progress}
+use Rattle.image.specs.declared.loading.Progress.TheVariants.{Open, Ended, Refused}
 use Rattle.image.specs.declared.loading.Reading.{Reading}
+
+-- none was the end, and none was refused
+abbrev pub is_open : Progress → Bool
+is_open Open = true
+is_open Ended = false
+is_open (Refused refusal) = false
+
+-- the last was the end
+abbrev pub has_ended : Progress → Bool
+has_ended Open = false
+has_ended Ended = true
+has_ended (Refused refusal) = false
+
+-- what is said of the records so far
+abbrev pub said_by : Progress → Verdict
+said_by Open = Ok tt
+said_by Ended = Ok tt
+said_by (Refused refusal) = Err refusal
 
 -- nothing is read yet
 abbrev pub begun : Reading
-begun = record { at = 0; upper = 0; lines = 0; ended = false; verdict = Passed }
+begun = record { at = 0; upper = 0; lines = 0; progress = Open }
 
 -- there is a record to be read: none was refused, none was the end, and text is left
 abbrev pub reads_on : List ℕ → Reading → Bool
-reads_on text reading = is_passed reading.verdict && (not reading.ended && ltb reading.at (length text))
+reads_on text reading = is_open reading.progress && ltb reading.at (length text)
 
 -- the text from the record on that is to be read
 abbrev pub rest_at : List ℕ → Reading → List ℕ
@@ -33,18 +53,17 @@ past rest reading =
       at = reading.at + line_size rest;
       upper = upper_after rest reading.upper;
       lines = reading.lines + 1;
-      ended = eqb (kind_in rest) end_kind;
-      verdict = Passed;
+      progress = cond (eqb (kind_in rest) end_kind) Ended Open;
     }
 
 -- or stopped at it
 abbrev pub stopped : Refusal → Reading → Reading
 stopped refusal reading =
-    record { at = reading.at; upper = reading.upper; lines = reading.lines; ended = reading.ended; verdict = Refused refusal }
+    record { at = reading.at; upper = reading.upper; lines = reading.lines; progress = Refused refusal }
 
 abbrev pub read_by : Verdict → List ℕ → Reading → Reading
-read_by Passed rest reading = past rest reading
-read_by (Refused refusal) rest reading = stopped refusal reading
+read_by (Ok tt) rest reading = past rest reading
+read_by (Err refusal) rest reading = stopped refusal reading
 
 -- what the checks say of the record that is to be read, in an array of this size
 abbrev pub verdict_at : ℕ → List ℕ → Reading → Verdict
@@ -67,14 +86,14 @@ scanned size text = reading_after size text (length text)
 
 -- 24 comes last: no end record, or text after it
 abbrev pub end_verdict : List ℕ → Reading → Verdict
-end_verdict text reading = cond (reading.ended && eqb reading.at (length text)) Passed (Refused NoEnd)
+end_verdict text reading = cond (has_ended reading.progress && eqb reading.at (length text)) (Ok tt) (Err NoEnd)
 
 abbrev pub verdict_by : Verdict → List ℕ → Reading → Verdict
-verdict_by Passed text reading = end_verdict text reading
-verdict_by (Refused refusal) text reading = Refused refusal
+verdict_by (Ok tt) text reading = end_verdict text reading
+verdict_by (Err refusal) text reading = Err refusal
 
 abbrev pub verdict_of : List ℕ → Reading → Verdict
-verdict_of text reading = verdict_by reading.verdict text reading
+verdict_of text reading = verdict_by (said_by reading.progress) text reading
 
 -- what is said of a whole text
 abbrev pub text_verdict : ℕ → List ℕ → Verdict

@@ -1,7 +1,7 @@
 -- The second walk over the same records: each data record is stored, so that a later one replaces an earlier one (request E1).
 use Rattle.std.specs.Prelude.{ℕ, ◌+◌, ◌-◌, Bool, cond, ◌&&◌, List, eqb, ltb, leb, length}
 use Rattle.base.specs.Fold.{up_to}
-use Rattle.refusal.specs.Checks.{is_passed}
+use Rattle.std.specs.Result.{is_ok}
 use Rattle.hexline.specs.Fields.{data_kind, count_in, kind_in, data_at, first_address, put_data}
 use Rattle.image.specs.declared.loading.Reading.{Reading}
 use Rattle.image.specs.Reading.{begun, reads_on, rest_at, verdict_at, next_reading}
@@ -12,7 +12,7 @@ Storing = Reading × List ℕ
 
 -- the record that is to be read passes, and is one of data
 abbrev pub is_stored : ℕ → List ℕ → Reading → Bool
-is_stored size text reading = is_passed (verdict_at size text reading) && eqb (kind_in (rest_at text reading)) data_kind
+is_stored size text reading = is_ok (verdict_at size text reading) && eqb (kind_in (rest_at text reading)) data_kind
 
 unfoldable pub next_storing : ℕ → List ℕ → Storing → Storing
 next_storing size text (reading, share) = (

@@ -3,23 +3,15 @@ ghost use Rattle.std.specs.Prelude.{◌+◌, ◌*◌, ◌≤◌, ◌^◌, ◌≡
 ghost use Rattle.base.specs.Store.{patched};
 ghost use Rattle.refusal.specs.Checks.{first_of};
 ghost use Rattle.image.specs.Rows.{upper_of, upper_changes, upper_text, bare_row, row_text, saved_size};
-ghost use Rattle.image.specs.Save.{save_checks, put_row, put_rows, save_share, save};
+ghost use Rattle.image.specs.Save.{save_checks, put_row, put_rows, put_text, save};
 
 use crate::share::share_of;
-use base::word::BYTE;
 use bus::Bus;
 use hexline::fields::{DATA, END, UPPER, UPPER_STEP};
 use hexline::writing::put_record;
 use lineup::places_of;
 use parts::part::geometry_of;
-use refusal::{Refusal, Verdict};
-
-// What saving answers, and how many bytes the text has.
-#[derive(Clone, Copy)]
-pub struct Saved {
-    pub verdict: Verdict,
-    pub written: usize,
-}
+use refusal::Refusal;
 
 const ROW_BYTES: usize = 16;
 
@@ -35,10 +27,7 @@ fn saved_size(size: u32) -> usize
     ensures { result ≡ saved_size size }
 {
     let size = size as usize;
-    if size == 0 {
-        return END_TEXT;
-    }
-    size / ROW_BYTES * ROW_TEXT + (size - 1) / UPPER_STEP * UPPER_TEXT + END_TEXT
+    size / ROW_BYTES * ROW_TEXT + size.saturating_sub(1) / UPPER_STEP * UPPER_TEXT + END_TEXT
 }
 
 fn upper_of(row: usize) -> usize
@@ -53,18 +42,14 @@ fn upper_changes(row: usize) -> bool
     requires { row ≤ 2 ^ 24 }
     ensures { result ≡ upper_changes row }
 {
-    if row == 0 {
-        return false;
-    }
-    upper_of(row) != upper_of(row - 1)
+    upper_of(row) != upper_of(row.saturating_sub(1))
 }
 
 fn put_upper(upper: u16, text: &mut [u8], at: usize)
     requires { at + 16 ≤ length text.old }
     ensures { text.new ≡ patched at (upper_text upper) text.old }
 {
-    let bytes = [(upper / BYTE) as u8, (upper % BYTE) as u8];
-    put_record(UPPER, 0, &bytes, text, at);
+    put_record(UPPER, 0, &upper.to_be_bytes(), text, at);
 }
 
 // A row's record of data.
@@ -85,75 +70,63 @@ fn put_row(share: &[u8], row: usize, text: &mut [u8], at: usize) -> usize
     if upper_changes(row) {
         put_upper(upper_of(row) as u16, text, at);
         put_bare(share, row, text, at + UPPER_TEXT);
-        return at + UPPER_TEXT + ROW_TEXT;
+        at + UPPER_TEXT + ROW_TEXT
+    } else {
+        put_bare(share, row, text, at);
+        at + ROW_TEXT
     }
-    put_bare(share, row, text, at);
-    at + ROW_TEXT
 }
 
 fn put_rows(share: &[u8], text: &mut [u8]) -> usize
     requires { (length share.now ≤ 2 ^ 24) × (saved_size (length share.now) ≤ length text.old) }
     ensures { (result, text.new) ≡ put_rows share.now text.old }
 {
-    let rows = share.len() / ROW_BYTES;
-    let mut at: usize = 0;
-    let mut row: usize = 0;
-    while row < rows {
+    let mut at = 0;
+    for row in 0..share.len() / ROW_BYTES {
         at = put_row(share, row, text, at);
-        row += 1;
     }
     at
 }
 
-// Writes one chip's share, which has room.
-fn save_share(share: &[u8], text: &mut [u8]) -> Saved
+// Writes one chip's share, which has room, and answers how long its text is.
+fn put_text(share: &[u8], text: &mut [u8]) -> usize
     requires { (length share.now ≤ 2 ^ 24) × (saved_size (length share.now) ≤ length text.old) }
-    ensures { (result, text.new) ≡ save_share share.now text.old }
+    ensures { (result, text.new) ≡ put_text share.now text.old }
 {
     let at = put_rows(share, text);
-    let none: [u8; 0] = [];
-    put_record(END, 0, &none, text, at);
-    Saved {
-        verdict: Verdict::Passed,
-        written: at + END_TEXT,
-    }
+    put_record(END, 0, &[], text, at);
+    at + END_TEXT
 }
 
 // Checks 10, 5, 7 and 19.
-fn save_verdict(bus: Bus, array: &[u8], security: &[u8], chip: usize, text: &[u8]) -> Verdict
+fn save_verdict(
+    bus: Bus,
+    array: &[u8],
+    security: &[u8],
+    chip: usize,
+    text: &[u8],
+) -> Result<(), Refusal>
     ensures { result ≡ first_of (save_checks bus array.now security.now chip text.now) }
 {
-    let verdict = bus.chip_verdict(array, security, chip);
-    match verdict {
-        Verdict::Refused(refusal) => Verdict::Refused(refusal),
-        Verdict::Passed => {
-            let chips = bus.chips;
-            let places = places_of(chips);
-            let place = places[chip];
-            if text.len() < saved_size(geometry_of(place.part).array) {
-                Verdict::Refused(Refusal::ShortText)
-            } else {
-                Verdict::Passed
-            }
-        }
+    bus.chip_verdict(array, security, chip)?;
+    let place = places_of(bus.chips)[chip];
+    if text.len() < saved_size(geometry_of(place.part).array) {
+        Err(Refusal::ShortText)
+    } else {
+        Ok(())
     }
 }
 
-// Writes the array of a chip to the start of a buffer; bytes past the text stay.
-pub fn save(bus: Bus, array: &[u8], security: &[u8], chip: usize, text: &mut [u8]) -> Saved
+// Writes the array of a chip to the start of a buffer, and answers how many bytes the text has; bytes past it stay.
+pub fn save(
+    bus: Bus,
+    array: &[u8],
+    security: &[u8],
+    chip: usize,
+    text: &mut [u8],
+) -> Result<usize, Refusal>
     ensures { (result, text.new) ≡ save bus array.now security.now chip text.old }
 {
-    let verdict = save_verdict(bus, array, security, chip, text);
-    match verdict {
-        Verdict::Refused(refusal) => Saved {
-            verdict: Verdict::Refused(refusal),
-            written: 0,
-        },
-        Verdict::Passed => {
-            let share = share_of(bus, chip);
-            let start = share.start;
-            let end = share.end;
-            save_share(&array[start..end], text)
-        }
-    }
+    save_verdict(bus, array, security, chip, text)?;
+    Ok(put_text(&array[share_of(bus, chip)], text))
 }

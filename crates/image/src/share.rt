@@ -6,21 +6,12 @@ use board::placed;
 use board::shares::array_start;
 use bus::Bus;
 use lineup::places_of;
-
-#[derive(Clone, Copy)]
-pub struct Share {
-    pub start: usize,
-    pub end: usize,
-}
+use std::ops::Range;
 
 // A chip that is not there has the empty share at the store's end.
-pub fn share_of(bus: Bus, chip: usize) -> Share
+pub fn share_of(bus: Bus, chip: usize) -> Range<usize>
     ensures { result ≡ share_of bus chip }
 {
-    let chips = bus.chips;
-    let places = places_of(chips);
-    Share {
-        start: array_start(chip, places),
-        end: array_start(placed(chip) + 1, places),
-    }
+    let places = places_of(bus.chips);
+    array_start(chip, places)..array_start(placed(chip) + 1, places)
 }

@@ -6,50 +6,24 @@ mod expected;
 mod recorded;
 mod whole;
 
+use asking::words::each_word;
 use recorded::as_recorded;
-use std::env::{Env, FillError};
 use std::io;
-
-// The program's own name is the first word.
-const OWN: usize = 1;
 
 // A word has fewer bytes than this.
 const WORD: usize = 100;
 
-#[derive(Clone, Copy)]
-struct Tally {
-    played: u64,
-    differ: u64,
-}
-
-fn one_more(count: u64) -> u64 {
-    if count < u64::MAX { count + 1 } else { count }
-}
-
-fn with_word(rt: &HostRuntime, tally: Tally, word: &[u8]) -> Tally {
-    let differ = tally.differ;
-    let same = as_recorded(rt, word);
-    Tally {
-        played: one_more(tally.played),
-        differ: if same { differ } else { one_more(differ) },
-    }
-}
-
 // A word that is too long names no file.
 fn main(rt: HostRuntime) -> io::Result<()> {
-    let mut space = [0u8; WORD];
-    let mut tally = Tally {
-        played: 0,
-        differ: 0,
-    };
-    for i in OWN..usize::MAX {
-        match rt.arg(i, &mut space) {
-            Ok(n) => tally = with_word(&rt, tally, &space[..n]),
-            Err(FillError::TooLong) => tally = with_word(&rt, tally, b""),
-            Err(FillError::NotPresent) => break,
+    let mut room = [0u8; WORD];
+    let mut played: u64 = 0;
+    let mut differ: u64 = 0;
+    each_word(&rt, &mut room, |_, word| -> io::Result<()> {
+        if !as_recorded(&rt, word.unwrap_or(b"")) {
+            differ = differ.saturating_add(1);
         }
-    }
-    let played = tally.played;
-    let differ = tally.differ;
+        played = played.saturating_add(1);
+        Ok(())
+    })?;
     println!(rt; "{played} played, {differ} differ")
 }

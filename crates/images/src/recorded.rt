@@ -1,17 +1,16 @@
 // A recorded file: what loading answers, and, of one that is taken, NAME.want, which has the text that saving must write.
-ghost use Rattle.std.specs.Prelude.{◌+◌, ◌≤◌, ◌≡◌, length};
+ghost use Rattle.std.specs.Prelude.{◌≤◌, ◌≡◌, length, IfSome};
 
-use crate::expected::{Expected, NAME, expected_by, has_form};
+use crate::expected::{Expected, NAME, expected_by};
 use crate::whole::{fill_in, other_line};
-use base::logic::and;
 use board::Place;
-use bus::Bus;
+use bus::{Bus, SetUp};
 use factory::{erased_arrays, erased_registers};
-use files::{Content, read_whole};
+use files::{read_whole, with_ending};
 use image::loading::load;
-use image::saving::{Saved, save};
+use image::saving::save;
 use placing::layout::Board;
-use refusal::{Verdict, status_of};
+use refusal::Refusal;
 use std::io::Print;
 
 // The most bytes of a file, and of what is saved.
@@ -19,8 +18,6 @@ const TEXT: usize = 524_288;
 
 // A name with its ending has at most so many bytes.
 const PATH: usize = 128;
-
-const ENDING: usize = 5;
 
 // The board's one chip.
 const CHIP: usize = 0;
@@ -30,13 +27,6 @@ const ERASED: u8 = 0xFF;
 // The number of a text buffer that is too short.
 const SHORT_TEXT: usize = 19;
 
-// Whether a file is there and no longer than the buffer, and how much of that it fills.
-#[derive(Clone, Copy)]
-struct Known {
-    known: bool,
-    size: usize,
-}
-
 // Room for a file. The length is said by itself, so that no caller has to count the bytes.
 fn blank_text() -> [u8; TEXT]
     ensures { 524288 ≡ length result }
@@ -44,226 +34,175 @@ fn blank_text() -> [u8; TEXT]
     [0u8; TEXT]
 }
 
-fn say(rt: &HostRuntime, text: &[u8]) {
-    let _ = rt.write_all(text);
-}
-
+// In both test programs: two lines, and no library is for test programs alone.
 fn tell(rt: &HostRuntime, name: &[u8], what: &[u8]) {
-    say(rt, name);
-    say(rt, what);
+    let _ = rt.write_all(name);
+    let _ = rt.write_all(what);
 }
 
-fn missing(rt: &HostRuntime, path: &[u8]) -> Known
-    ensures { result.size ≡ 0 }
+// How much of the buffer a file fills, where it is there and no longer than that.
+fn read_text(rt: &HostRuntime, path: &[u8], into: &mut [u8]) -> Option<usize>
+    ensures { IfSome result (λ size. size ≤ length into.new) }
 {
-    tell(rt, path, b": missing, or too long\n");
-    Known {
-        known: false,
-        size: 0,
+    match read_whole(rt, path, into) {
+        Ok(size) => Some(size),
+        Err(_) => {
+            tell(rt, path, b": missing, or too long\n");
+            None
+        }
     }
 }
 
-fn read_text(rt: &HostRuntime, path: &[u8], into: &mut [u8]) -> Known
-    ensures { result.size ≤ length into.new }
-{
-    let content = read_whole(rt, path, into);
-    match content {
-        Content::Whole(size) => Known { known: true, size },
-        Content::TooLong => missing(rt, path),
-        Content::Failed(_) => missing(rt, path),
-    }
+// A word's file, and what is told of it.
+#[derive(Clone, Copy)]
+struct Recorded<'a> {
+    rt: &'a HostRuntime,
+    name: &'a [u8],
+    expected: Expected,
 }
 
-// Whether a number is the one expected; one that is not is told.
-fn is_same(rt: &HostRuntime, name: &[u8], what: &[u8], expected: usize, answered: usize) -> bool {
-    if expected == answered {
-        return true;
+impl Recorded<'_> {
+    fn tell(&self, what: &[u8]) {
+        tell(self.rt, self.name, what);
     }
-    tell(rt, name, what);
-    let _ = println!(rt; "{expected} expected, {answered} answered");
-    false
-}
 
-// A file that is refused stores nothing.
-fn stays_erased(rt: &HostRuntime, name: &[u8], array: &[u8]) -> bool {
-    let mut i: usize = 0;
-    while i < array.len() {
-        if array[i] != ERASED {
-            tell(rt, name, b": array: changed, though the file is refused\n");
+    // Whether a number is the one expected; one that is not is told.
+    fn is_same(&self, what: &[u8], expected: usize, answered: usize) -> bool {
+        if expected != answered {
+            self.tell(what);
+            let _ = println!(self.rt; "{expected} expected, {answered} answered");
+        }
+        expected == answered
+    }
+
+    // A file that is refused stores nothing.
+    fn stays_erased(&self, array: &[u8]) -> bool {
+        let erased = array.iter().all(|byte| *byte == ERASED);
+        if !erased {
+            self.tell(b": array: changed, though the file is refused\n");
+        }
+        erased
+    }
+
+    // Whether the text in a buffer is the whole one; the line at which it differs is told.
+    fn is_text(&self, text: &[u8], whole: &[u8]) -> bool {
+        let Some(line) = other_line(text, whole) else {
+            return true;
+        };
+        self.tell(b": text: line ");
+        let _ = println!(self.rt; "{line} of what is saved differs");
+        false
+    }
+
+    // Whether a buffer without room for the text is refused.
+    fn is_too_short(&self, bus: Bus, array: &[u8], security: &[u8], text: &mut [u8]) -> bool {
+        let saved = save(bus, array, security, CHIP, text);
+        let same_number = self.is_same(b": short buffer, number: ", SHORT_TEXT, number_of(saved));
+        let same_size = self.is_same(b": short buffer, written: ", 0, saved.unwrap_or(0));
+        same_number && same_size
+    }
+
+    // Saves into a buffer that has just room for the text, and into one that is a byte shorter.
+    fn saves_as(
+        &self,
+        bus: Bus,
+        array: &[u8],
+        security: &[u8],
+        whole: &[u8],
+        text: &mut [u8],
+    ) -> bool {
+        let size = whole.len().min(text.len());
+        let saved = save(bus, array, security, CHIP, &mut text[..size]);
+        if !self.is_same(b": text, number: ", 0, number_of(saved)) {
             return false;
         }
-        i += 1;
-    }
-    true
-}
-
-// Where the first bytes of a buffer end, so many of them or all that there are.
-fn end_in(text: &[u8], size: usize) -> usize
-    ensures { result ≤ length text.now }
-{
-    if size <= text.len() { size } else { text.len() }
-}
-
-// Saves into the first bytes of a buffer.
-fn save_in(bus: Bus, array: &[u8], security: &[u8], text: &mut [u8], room: usize) -> Saved {
-    let end = end_in(text, room);
-    save(bus, array, security, CHIP, &mut text[0..end])
-}
-
-// Whether a buffer without room for the text is refused.
-fn is_too_short(
-    rt: &HostRuntime,
-    name: &[u8],
-    bus: Bus,
-    array: &[u8],
-    security: &[u8],
-    text: &mut [u8],
-    room: usize,
-) -> bool {
-    let saved = save_in(bus, array, security, text, room);
-    let verdict = saved.verdict;
-    let number = status_of(verdict) as usize;
-    and(
-        is_same(rt, name, b": short buffer, number: ", SHORT_TEXT, number),
-        is_same(rt, name, b": short buffer, written: ", 0, saved.written),
-    )
-}
-
-// Whether the text in a buffer is the whole one; the line at which it differs is told.
-fn is_text(rt: &HostRuntime, name: &[u8], text: &[u8], written: usize, whole: &[u8]) -> bool {
-    let end = end_in(text, written);
-    let line = other_line(&text[0..end], whole);
-    if line == 0 {
-        return true;
-    }
-    tell(rt, name, b": text: line ");
-    let _ = println!(rt; "{line} of what is saved differs");
-    false
-}
-
-// Saves into a buffer that has just room for the text, and into one that is a byte shorter.
-fn saves_as(
-    rt: &HostRuntime,
-    name: &[u8],
-    bus: Bus,
-    array: &[u8],
-    security: &[u8],
-    whole: &[u8],
-    text: &mut [u8],
-) -> bool {
-    let size = whole.len();
-    let saved = save_in(bus, array, security, text, size);
-    let verdict = saved.verdict;
-    if !is_same(
-        rt,
-        name,
-        b": text, number: ",
-        0,
-        status_of(verdict) as usize,
-    ) {
-        return false;
-    }
-    if !is_text(rt, name, text, saved.written, whole) {
-        return false;
-    }
-    let room = if 0 < size { size - 1 } else { 0 };
-    is_too_short(rt, name, bus, array, security, text, room)
-}
-
-// The name with its ending, and how many bytes it has.
-fn put_path(name: &[u8], path: &mut [u8]) -> usize
-    requires { length name.now + 5 ≤ length path.old }
-    ensures { result ≡ length name.now + 5 }
-{
-    let n = name.len();
-    let end = n + ENDING;
-    path[0..n].copy_from_slice(name);
-    path[n..end].copy_from_slice(b".want");
-    end
-}
-
-fn read_want(rt: &HostRuntime, name: &[u8], into: &mut [u8]) -> Known
-    ensures { result.size ≤ length into.new }
-{
-    if PATH - ENDING < name.len() {
-        return missing(rt, name);
-    }
-    let mut path = [0u8; PATH];
-    let end = put_path(name, &mut path);
-    read_text(rt, &path[0..end], into)
-}
-
-// Whether what was loaded is saved as recorded.
-fn saves(
-    rt: &HostRuntime,
-    name: &[u8],
-    bus: Bus,
-    array: &[u8],
-    security: &[u8],
-    whole: &mut [u8],
-    text: &mut [u8],
-) -> bool {
-    let want = read_want(rt, name, text);
-    if !want.known {
-        return false;
-    }
-    let size = want.size;
-    let filled = fill_in(&text[0..size], array.len(), whole);
-    let end = end_in(whole, filled);
-    saves_as(rt, name, bus, array, security, &whole[0..end], text)
-}
-
-// Whether a file is answered as expected, and does to the array what it should.
-fn loads(
-    rt: &HostRuntime,
-    expected: Expected,
-    name: &[u8],
-    bus: Bus,
-    array: &mut [u8],
-    security: &[u8],
-    text: &mut [u8],
-    spare: &mut [u8],
-) -> bool {
-    let file = read_text(rt, name, text);
-    if !file.known {
-        return false;
-    }
-    let size = file.size;
-    let loaded = load(bus, array, security, CHIP, &text[0..size]);
-    let verdict = loaded.verdict;
-    let number = status_of(verdict) as usize;
-    let same_number = is_same(rt, name, b": number: ", expected.number, number);
-    let same_line = is_same(rt, name, b": line: ", expected.line, loaded.line);
-    if !and(same_number, same_line) {
-        return false;
-    }
-    match verdict {
-        Verdict::Passed => saves(rt, name, bus, array, security, text, spare),
-        Verdict::Refused(_) => stays_erased(rt, name, array),
-    }
-}
-
-// On a fresh bus, in memories of the board's size.
-fn plays(
-    rt: &HostRuntime,
-    expected: Expected,
-    name: &[u8],
-    board: Board,
-    array: &mut [u8],
-    security: &mut [u8],
-    text: &mut [u8],
-    spare: &mut [u8],
-) -> bool {
-    let count = board.count;
-    let places = board.places;
-    let set_up = Bus::set_up(count, places, array, security);
-    let verdict = set_up.verdict;
-    match verdict {
-        Verdict::Passed => loads(rt, expected, name, set_up.bus, array, security, text, spare),
-        Verdict::Refused(_) => {
-            tell(rt, name, b": there is no such part\n");
-            false
+        let written = saved.unwrap_or(0).min(text.len());
+        if !self.is_text(&text[..written], whole) {
+            return false;
         }
+        let room = whole.len().saturating_sub(1).min(text.len());
+        self.is_too_short(bus, array, security, &mut text[..room])
+    }
+
+    // Whether what was loaded is saved as recorded.
+    fn saves(
+        &self,
+        bus: Bus,
+        array: &[u8],
+        security: &[u8],
+        whole: &mut [u8],
+        text: &mut [u8],
+    ) -> bool {
+        let mut room = [0u8; PATH];
+        let Some(path) = with_ending(self.name, b".want", &mut room) else {
+            self.tell(b": missing, or too long\n");
+            return false;
+        };
+        let Some(size) = read_text(self.rt, path, text) else {
+            return false;
+        };
+        let filled = fill_in(&text[..size], array.len(), whole);
+        let end = filled.min(whole.len());
+        self.saves_as(bus, array, security, &whole[..end], text)
+    }
+
+    // Whether a file is answered as expected, and does to the array what it should.
+    fn loads(
+        &self,
+        bus: Bus,
+        array: &mut [u8],
+        security: &[u8],
+        text: &mut [u8],
+        spare: &mut [u8],
+    ) -> bool {
+        let Some(size) = read_text(self.rt, self.name, text) else {
+            return false;
+        };
+        let loaded = load(bus, array, security, CHIP, &text[..size]);
+        let (number, line) = match loaded {
+            Ok(()) => (0, 0),
+            Err(error) => (u8::from(error.refusal) as usize, error.line),
+        };
+        let same_number = self.is_same(b": number: ", self.expected.number, number);
+        let same_line = self.is_same(b": line: ", self.expected.line, line);
+        if !(same_number && same_line) {
+            return false;
+        }
+        match loaded {
+            Ok(()) => self.saves(bus, array, security, text, spare),
+            Err(_) => self.stays_erased(array),
+        }
+    }
+
+    // On a fresh bus, in memories of the board's size.
+    fn plays(
+        &self,
+        array: &mut [u8],
+        security: &mut [u8],
+        text: &mut [u8],
+        spare: &mut [u8],
+    ) -> bool {
+        let board = board_of(self.expected.part);
+        let array_end = board.array_end(array.len());
+        let security_end = board.security_end(security.len());
+        let array = &mut array[..array_end];
+        let security = &mut security[..security_end];
+        let SetUp { bus, verdict } = Bus::set_up(board.count, board.places, array, security);
+        match verdict {
+            Ok(()) => self.loads(bus, array, security, text, spare),
+            Err(_) => {
+                self.tell(b": there is no such part\n");
+                false
+            }
+        }
+    }
+}
+
+// The number of a refusal, 0 of a text that is saved.
+fn number_of(saved: Result<usize, Refusal>) -> usize {
+    match saved {
+        Ok(_) => 0,
+        Err(refusal) => u8::from(refusal) as usize,
     }
 }
 
@@ -272,57 +211,20 @@ fn board_of(part: u8) -> Board {
     Board::bare().with_chip(Place { part, strap: 0 })
 }
 
-// Lends the board memories of its size.
-fn fit(
-    rt: &HostRuntime,
-    expected: Expected,
-    name: &[u8],
-    array: &mut [u8],
-    security: &mut [u8],
-    text: &mut [u8],
-    spare: &mut [u8],
-) -> bool {
-    let board = board_of(expected.part);
-    let array_end = board.array_end(array.len());
-    let security_end = board.security_end(security.len());
-    plays(
-        rt,
-        expected,
-        name,
-        board,
-        &mut array[0..array_end],
-        &mut security[0..security_end],
-        text,
-        spare,
-    )
-}
-
-fn tell_form(rt: &HostRuntime, word: &[u8]) {
-    tell(rt, word, b": not PART:NN:LLLLL:NAME\n");
-}
-
 // Whether the file of a word is answered as the word says.
 pub fn as_recorded(rt: &HostRuntime, word: &[u8]) -> bool {
-    if word.len() <= NAME {
-        tell_form(rt, word);
+    let Some(expected) = expected_by(word) else {
+        tell(rt, word, b": not PART:NN:LLLLL:NAME\n");
         return false;
-    }
-    if !has_form(word) {
-        tell_form(rt, word);
-        return false;
-    }
-    let expected = expected_by(word);
+    };
+    let recorded = Recorded {
+        rt,
+        name: &word[NAME..],
+        expected,
+    };
     let mut array = erased_arrays();
     let mut security = erased_registers();
     let mut text = blank_text();
     let mut spare = blank_text();
-    fit(
-        rt,
-        expected,
-        &word[NAME..],
-        &mut array,
-        &mut security,
-        &mut text,
-        &mut spare,
-    )
+    recorded.plays(&mut array, &mut security, &mut text, &mut spare)
 }

@@ -1,7 +1,6 @@
 -- A step of a bus state that is lent: the state is moved on where it stands, and the answer comes back (paper, "The transcript").
 use Rattle.std.specs.Prelude.{ℕ, List, ◌≡◌}
-use Rattle.refusal.specs.declared.Answer.{Answer}
-use Rattle.refusal.specs.declared.Verdict.{Verdict}
+use Rattle.refusal.specs.Verdict.{Verdict, Answer}
 use Rattle.bus.specs.Step.{step_given}
 use Rattle.bus.specs.declared.Bus.{Bus}
 use Rattle.bus.specs.declared.Stepped.{Stepped}

@@ -1,22 +1,20 @@
-// The bus state lent to a step and moved on where it stands (paper, "The transcript"): one thin wrapper over the step by value.
+// The bus state lent to a step and moved on where it stands (paper, "The transcript"): one thin wrapper over the step of a bus.
 #![tactic(auto)]
 
 ghost use Rattle.inplace.specs.InPlace.{StepsInPlace};
 
 use bus::Bus;
-use refusal::{Answer, Verdict};
+use refusal::Refusal;
 
 // `entry` is the verdict of the bus's entry checks: whoever plays many events asks for it once.
 pub fn step_in_place(
     bus: &mut Bus,
-    entry: Verdict,
+    entry: Result<(), Refusal>,
     array: &mut [u8],
     security: &mut [u8],
     word: u16,
-) -> Answer
+) -> Result<u8, Refusal>
     ensures { StepsInPlace bus.old entry array.old security.old word result bus.new array.new security.new }
 {
-    let stepped = (*bus).step_given(entry, array, security, word);
-    *bus = stepped.bus;
-    stepped.answer
+    bus.step_lent(entry, array, security, word)
 }

@@ -3,7 +3,7 @@
 use Prim.Native.Nat.{ℕ, ◌+◌, ◌-◌, ◌*◌, ◌^◌, ◌<◌, ◌≤◌}
 use native.Mathlib.Decide.{dec_le}
 use native.Mathlib.Omega.{arith}
-use mathlib.Core.Bool.{Bool, true, false, cond}
+use mathlib.Core.Bool.{Bool, true, false, cond, ◌&&◌}
 use mathlib.Core.List.{List, [], ◌++◌}
 use mathlib.Core.Path.{◌≡◌, ◌∙◌, refl, sym, ap}
 use lib.ListN.{length, take, drop, set}
@@ -14,8 +14,9 @@ use Rattle.base.specs.Store.{span, patched}
 use Rattle.base.proofs.Fold.{up_more, up_keeps}
 use Rattle.base.proofs.Cut.{patched_same, least_step, span_cut, patched_cut}
 use Rattle.base.proofs.number.Laws.{least_first, least_second, least_most}
-use Rattle.base.proofs.logic.Laws.{either}
+use Rattle.base.proofs.logic.Laws.{either, first_one}
 use Rattle.control.specs.declared.Said.{Said}
+use Rattle.control.specs.Phase.{is_sending}
 use Rattle.chip.specs.declared.Chip.{Chip}
 use Rattle.chip.specs.declared.Stepped.{Stepped}
 use Rattle.chip.specs.Chip.{quiet, taken, read, stop, moved, meets_nothing, step, values_after}
@@ -32,7 +33,8 @@ use Rattle.lineup.specs.Chips.{no_chip, chip_at, places_of}
 use Rattle.lineup.proofs.Laws.{place_at_lem}
 use Rattle.line.specs.Line as line
 use Rattle.line.specs.declared.Ends.{Ends}
-use Rattle.line.specs.Line.{chip_loads, share_ends, array_share, security_share, heard, OnLine, landed, chip_takes}
+use Rattle.line.specs.Line.{chip_loads, share_ends, array_share, security_share, heard, OnLine, landed, chip_takes, hears}
+use Rattle.line.proofs.Deaf.{deaf_to_sent, deaf_to_read, passed_by}
 
 abbrev pub on_line : List Chip → Said → List ℕ → List ℕ → OnLine
 on_line chips said array security = (record { chips = chips; said = said }, array, security)
@@ -167,6 +169,14 @@ module _ (addressed : Addressed) (values : List ℕ) (places : List Place) (i : 
       does
       says
 
+  -- and where it is not reached, or the event means nothing to it, it stays
+  pub passed_over : (quiet (chip_at chips i), array_share places i array, security_share places i security) ≡ takes_on addressed values i (chip_at chips i) (array_share places i array) (security_share places i security)
+      → on_line chips said array security ≡ chip_takes addressed values places i (on_line chips said array security)
+  passed_over stays = ap (λ (cs : List Chip). on_line cs said array security) (sym (set-get_or chips i no_chip)) ∙ alone_lands (quiet c) said stays refl
+
+  pub not_reached : reaches addressed i ≡ false → on_line chips said array security ≡ chip_takes addressed values places i (on_line chips said array security)
+  not_reached is = rw is refl
+
   -- an event that meets neither stores nor values moves the chip alone
   pub moves : meets_nothing (event_of addressed) ≡ true
       → (quiet (cond (reaches addressed i) (moved (chip_at chips i) (event_of addressed)) (chip_at chips i)), array_share places i array, security_share places i security)
@@ -176,6 +186,10 @@ module _ (addressed : Addressed) (values : List ℕ) (places : List Place) (i : 
       go : (reached : Bool) → (quiet (cond reached (moved c (event_of addressed)) c), a, s) ≡ cond reached (step c values a s (event_of addressed)) (quiet c, a, s)
       go true = sym (moves_alone c values a s (event_of addressed) nothing)
       go false = refl
+
+  pub reached_moves : meets_nothing (event_of addressed) ≡ true → reaches addressed i ≡ true → (next : Chip) → next ≡ moved (chip_at chips i) (event_of addressed)
+      → on_line (set chips i next) said array security ≡ chip_takes addressed values places i (on_line chips said array security)
+  reached_moves nothing is next does = alone_lands (quiet next) said (ap (λ (n : Chip). (quiet n, a, s)) (first_one _ _ is does) ∙ moves nothing) refl
 
   -- a byte sent leaves the shares, and may be loaded
   pub takes_byte : (first : Bool) (byte : ℕ) → event_of addressed ≡ Sent first byte → (stepped : Stepped) (before after : List ℕ)
@@ -189,6 +203,12 @@ module _ (addressed : Addressed) (values : List ℕ) (places : List Place) (i : 
           → ((stepped, a, s) ≡ cond reached (step c values a s (event_of addressed)) (quiet c, a, s)) × (after ≡ cond reached (values_after c (event_of addressed) before) before)
       go true does = rw is (ap (λ (x : Stepped × List ℕ). (x.0, a, s)) does, ap (λ (x : Stepped × List ℕ). x.1) does)
       go false does = (ap (λ (x : Stepped × List ℕ). (x.0, a, s)) does, ap (λ (x : Stepped × List ℕ). x.1) does)
+
+  -- or means nothing to the chip
+  pub deaf_to_byte : (first : Bool) (byte : ℕ) → event_of addressed ≡ Sent first byte → (reaches addressed i && hears first (chip_at chips i).control.phase) ≡ false → (before : List ℕ)
+      → ((quiet (chip_at chips i), array_share places i array, security_share places i security) ≡ takes_on addressed values i (chip_at chips i) (array_share places i array) (security_share places i security))
+      × (before ≡ cond (reaches addressed i) (values_after (chip_at chips i) (event_of addressed) before) before)
+  deaf_to_byte first byte is deaf before = takes_byte first byte is (quiet c) before before (passed_by _ _ _ _ (deaf_to_sent c first byte before) deaf)
 
   -- a Stop, and a byte read, on shares that are lent
   pub takes_stop : event_of addressed ≡ Stop → (next : Chip) (share share' after after' : List ℕ)
@@ -212,6 +232,11 @@ module _ (addressed : Addressed) (values : List ℕ) (places : List Place) (i : 
           → (stepped, share, share') ≡ cond reached (step c values share share' (event_of addressed)) (quiet c, share, share')
       go true does = rw is (ap (λ (x : Stepped). (x, share, share')) does)
       go false does = ap (λ (x : Stepped). (x, share, share')) does
+
+  -- or means nothing to the chip
+  pub deaf_to_reading : (nack : Bool) → event_of addressed ≡ Read nack → (reaches addressed i && is_sending (chip_at chips i).control.phase) ≡ false
+      → (quiet (chip_at chips i), array_share places i array, security_share places i security) ≡ takes_on addressed values i (chip_at chips i) (array_share places i array) (security_share places i security)
+  deaf_to_reading nack is deaf = takes_read nack is (quiet c) a s (passed_by _ _ _ _ (deaf_to_read c a s nack) deaf)
 
 -- an event that is no byte sent leaves the values
 pub values_stay : (addressed : Addressed) (count : ℕ) (chips : List Chip) (values : List ℕ) → is_sent (event_of addressed) ≡ false → values ≡ line.values_after addressed count chips values

@@ -3,8 +3,9 @@ use Prim.Native.Nat.{ℕ, zero, suc, ◌<◌, ◌≤◌}
 use native.Mathlib.Decide.{dec_lt}
 use native.Mathlib.Omega.{arith}
 use mathlib.Core.List.{List}
-use mathlib.Core.Path.{◌≡◌, ◌∙◌, refl}
-use lib.ListN.{length, get_or, set, length-set}
+use mathlib.Core.Path.{◌≡◌, ◌∙◌, refl, sym}
+use Rattle.std.proofs.lemmas.List.{ext_get_or}
+use lib.ListN.{length, get_or, set, length-set, replicate}
 use lib.Seq.{get_or-set_same, get_or-set_other}
 use Rattle.base.specs.Fold.{up_to}
 use Rattle.base.proofs.Fold.{up_keeps}
@@ -34,3 +35,10 @@ module _ {A : Type 0} (value : ℕ → A) (list : List A) where
       go (no p) earlier =
           let last : i ≡ n = omega arith in
           rw last (get_or-set_same (filled value n list) n (value n) d (omega (arith, filled_length n)))
+
+-- an array that holds at each place what a function makes of another's element there
+pub mapped : {A B : Type 0} (f : A → B) (d : A) (e : B) (xs : List A) (ys : List B) → length ys ≡ 4 → ((i : ℕ) → i < 4 → get_or ys i e ≡ f (get_or xs i d))
+    → ys ≡ filled (λ (i : ℕ). f (get_or xs i d)) 4 (replicate 4 e)
+mapped f d e xs ys long each =
+    ext_get_or e ys _ (long ∙ sym (filled_length (λ (i : ℕ). f (get_or xs i d)) (replicate 4 e) 4))
+    (λ i below. let p : i < 4 = omega (arith, below, long) in each i p ∙ sym (filled_at (λ (k : ℕ). f (get_or xs k d)) (replicate 4 e) 4 i e (omega arith) p))

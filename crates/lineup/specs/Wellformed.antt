@@ -18,22 +18,20 @@
 --     awaiting an address byte, or the byte after F8h,
 --     counts as taking                                         is_taking: control Phase
 -- Places past the count are not looked at.
-use Rattle.std.specs.Prelude.{ℕ, Bool, ◌&&◌, List, get_or}
+use Rattle.std.specs.Prelude.{ℕ, Bool, ◌&&◌, List}
 use Rattle.base.specs.Fold.{all_below, all_pairs}
-use Rattle.control.specs.declared.Control.{Control}
-use Rattle.control.specs.Control.{fresh}
 use Rattle.chip.specs.declared.Chip.{Chip}
 use Rattle.wellformed.specs.Wellformed.{heeds_start}
 use Rattle.wellformed.specs.Wellformed as chip
 use Rattle.wellformed.specs.Beside.{side_by_side}
-use Rattle.refusal.specs.Checks.{is_passed}
+use Rattle.std.specs.Result.{is_ok}
 use Rattle.board.specs.Place.{placed}
 use Rattle.board.specs.Board.{board_verdict}
 use Rattle.lineup.specs.Chips.{chip_at, control_at, places_of}
 
 -- set-up would pass 1 to 4
 abbrev pub set_up_passes : ℕ → List Chip → Bool
-set_up_passes count chips = is_passed (board_verdict count (places_of chips))
+set_up_passes count chips = is_ok (board_verdict count (places_of chips))
 
 -- every counter and load position is inside its region, a busy chip is not chosen, only a chip taking data bytes holds a load, the next byte runs
 -- on, and every register's unused bits and ECS are 0
@@ -43,13 +41,6 @@ chips_fit count chips = all_below (λ (i : ℕ). chip.well_formed (chip_at chips
 -- no two chips are in each other's way: at most one is active, and while another awaits a byte it waits too
 abbrev pub chips_apart : ℕ → List Chip → Bool
 chips_apart count chips = all_pairs (λ (i j : ℕ). side_by_side (control_at chips i) (control_at chips j)) (placed count)
-
--- two of the chips, and one, by their controls alone
-abbrev pub beside_one : List Control → ℕ → ℕ → Bool
-beside_one controls i j = side_by_side (get_or controls i (fresh 0 0)) (get_or controls j (fresh 0 0))
-
-abbrev pub heeds_one : Bool → List Control → ℕ → Bool
-heeds_one started controls i = heeds_start started (get_or controls i (fresh 0 0)).phase
 
 -- while a Start is remembered every chip takes an address byte or nothing, and only then one awaits it
 abbrev pub chips_heed : ℕ → Bool → List Chip → Bool

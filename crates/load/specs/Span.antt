@@ -24,6 +24,10 @@ grown page place span =
 abbrev pub met_at : ℕ → Span → ℕ → ℕ
 met_at page span place = cond (ltb place span.first) (place + page) place
 
+-- where the place after the last is met
+abbrev pub end : Span → ℕ
+end span = span.first + span.count
+
 -- it is one of the `count` places from the first on
 abbrev pub covers : ℕ → Span → ℕ → Bool
 covers page span place = ltb (met_at page span place) (span.first + span.count)

@@ -5,8 +5,8 @@
 ghost use Rattle.std.specs.Prelude.{◌≡◌, ◌≤◌, ◌<◌};
 ghost use Rattle.parts.specs.Part.{geometry_of};
 ghost use Rattle.regions.specs.Page.{place_of};
-ghost use Rattle.load.specs.Span.{empty_span, is_empty, dropped, grown, met_at, covers, inside_page, runs_on};
-ghost use Rattle.load.specs.Load.{load_of, put, store_byte, store_page};
+ghost use Rattle.load.specs.Span.{empty_span, is_empty, dropped, grown, met_at, end, covers, inside_page, runs_on};
+ghost use Rattle.load.specs.Load.{load_of, put, store_page};
 
 use parts::part::geometry_of;
 use regions::page::{page_of, place_of};
@@ -15,7 +15,7 @@ use regions::page::{page_of, place_of};
 pub const PAGE_MOST: usize = 256;
 
 // The first place that was loaded, and how many were: loaded bytes run on, going round the page. A whole page of 256 bytes does not fit a byte.
-#[derive(Clone, Copy)]
+#[derive(Clone, Copy, Debug, Default, PartialEq, Eq)]
 pub struct Span {
     pub first: u8,
     pub count: u16,
@@ -25,15 +25,14 @@ impl Span {
     pub fn empty() -> Span
         ensures { result ≡ empty_span }
     {
-        Span { first: 0, count: 0 }
+        Span::default()
     }
 
     // Nothing is loaded any more. The first place stays, so that a chip at rest whose load is dropped is the same chip.
     pub fn dropped(self) -> Span
         ensures { result ≡ dropped self }
     {
-        let first = self.first;
-        Span { first, count: 0 }
+        Span { count: 0, ..self }
     }
 
     pub fn is_empty(self) -> bool
@@ -48,39 +47,39 @@ impl Span {
         requires place_bound { place < 256 }
         ensures { result ≡ grown page place self }
     {
-        let count = base::number::least(self.count as usize + 1, page as usize) as u16;
-        if self.is_empty() {
-            return Span {
-                first: place as u8,
-                count,
-            };
-        }
         Span {
-            first: self.first,
-            count,
+            first: if self.is_empty() {
+                place as u8
+            } else {
+                self.first
+            },
+            count: (u32::from(self.count) + 1).min(page) as u16,
         }
     }
 
-    // Where a place is met going on from the first.
-    fn met_at(self, page: u32, place: u32) -> u32
-        requires page_bound { page ≤ 256 }
-        requires place_bound { place < 256 }
+    // Where a place is met going on from the first. In 64 bits no sum wraps.
+    fn met_at(self, page: u32, place: u32) -> u64
         ensures { result ≡ met_at page self place }
     {
-        if place < self.first as u32 {
-            place + page
+        if place < u32::from(self.first) {
+            u64::from(place) + u64::from(page)
         } else {
-            place
+            u64::from(place)
         }
+    }
+
+    // Where the place after the last is met.
+    fn end(self) -> u64
+        ensures { result ≡ end self }
+    {
+        u64::from(self.first) + u64::from(self.count)
     }
 
     // Whether a place is one of the loaded ones.
     fn covers(self, page: u32, place: u32) -> bool
-        requires page_bound { page ≤ 256 }
-        requires place_bound { place < 256 }
         ensures { result ≡ covers page self place }
     {
-        self.met_at(page, place) < self.first as u32 + self.count as u32
+        self.met_at(page, place) < self.end()
     }
 
     // Whether the part's page has the first place, and as many as came.
@@ -88,7 +87,7 @@ impl Span {
         ensures { result ≡ inside_page (geometry_of part).page self }
     {
         let page = geometry_of(part).page;
-        base::logic::and((self.first as u32) < page, self.count as u32 <= page)
+        u32::from(self.first) < page && u32::from(self.count) <= page
     }
 
     // Whether a byte at an address runs on from those that came.
@@ -96,12 +95,9 @@ impl Span {
         ensures { result ≡ runs_on (geometry_of part).page self (place_of (geometry_of part) at) }
     {
         let page = geometry_of(part).page;
-        let next = self.met_at(page, place_of(part, at));
-        let follows = next == self.first as u32 + self.count as u32;
-        base::logic::or(
-            self.is_empty(),
-            base::logic::or(page <= self.count as u32, follows),
-        )
+        self.is_empty()
+            || page <= u32::from(self.count)
+            || self.met_at(page, place_of(part, at)) == self.end()
     }
 
     // A byte more, with its value at the place of an address in its page. The first byte clears what an earlier load has left.
@@ -110,8 +106,7 @@ impl Span {
     {
         let page = geometry_of(part).page;
         let place = place_of(part, at);
-        let begins = self.is_empty();
-        if begins {
+        if self.is_empty() {
             *values = [0; PAGE_MOST];
         }
         values[place as usize] = value;
@@ -124,22 +119,12 @@ impl Span {
     {
         let size = geometry_of(part).page;
         let first = page_of(part, at) * size;
-        let mut i: u32 = 0;
-        while i < size {
-            store_byte(self.covers(size, i), first + i, values[i as usize], share);
-            i += 1;
-        }
-    }
-}
-
-// A byte that is loaded goes to its address; past the share there is nothing to store to.
-fn store_byte(loaded: bool, at: u32, value: u8, share: &mut [u8])
-    ensures { share.new ≡ store_byte loaded at value share.old }
-{
-    let to = at as usize;
-    if loaded {
-        if to < share.len() {
-            share[to] = value;
+        for place in 0..size {
+            let to = (first + place) as usize;
+            // no `get_mut`: of the bytes that it lends a proof then knows nothing (tried: `share.new` stays open)
+            if self.covers(size, place) && to < share.len() {
+                share[to] = values[place as usize];
+            }
         }
     }
 }

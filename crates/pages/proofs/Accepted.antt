@@ -10,10 +10,11 @@ use lib.Dec.{eqb, ltb, leb}
 use lib.ListN.{length}
 use borrow.Author.Tests.{ltb-true, not-false}
 use Rattle.base.proofs.logic.Laws.{and_left, and_right}
-use Rattle.refusal.specs.declared.Verdict.{Verdict}
-use Rattle.refusal.specs.declared.Verdict.TheVariants.{Passed, Refused}
+use Rattle.refusal.specs.Verdict.{Verdict}
+use Rattle.std.specs.Prelude.{Ok, Err}
 use Rattle.refusal.specs.Refusal.{status_of}
-use Rattle.refusal.specs.Checks.{first_of, is_passed}
+use Rattle.refusal.specs.Checks.{first_of}
+use Rattle.std.specs.Result.{is_ok}
 use Rattle.refusal.proofs.Checks.{passed_exactly_when}
 use Rattle.board.specs.declared.Place.{Place}
 use Rattle.board.specs.Shares.{figures_at, array_start, security_start}
@@ -31,17 +32,17 @@ page_ends page size region there =
     omega (arith, mul-le-mul_right size there, add-mul page 1 size, one-mul size, div-mul-le_self region size)
 
 -- a query that is not accepted shows the empty part
-pub refused_shows : (verdict : Verdict) (places : List Place) (array security : Bor (List ℕ)) (chip store page : ℕ) (part : Bor (List ℕ)) → is_passed verdict ≡ false
+pub refused_shows : (verdict : Verdict) (places : List Place) (array security : Bor (List ℕ)) (chip store page : ℕ) (part : Bor (List ℕ)) → is_ok verdict ≡ false
     → PartOf array part 0 0
     → Shows (shown_by verdict places array security chip store page) part
-refused_shows Passed places array security chip store page part other shown = absurd (false≢true (sym other))
-refused_shows (Refused refusal) places array security chip store page part other shown = shown
+refused_shows (Ok tt) places array security chip store page part other shown = absurd (false≢true (sym other))
+refused_shows (Err refusal) places array security chip store page part other shown = shown
 
-module _ (bus : Bus) (array security : List ℕ) (chip store page : ℕ) (accepted : page_verdict bus array security chip store page ≡ Passed) where
+module _ (bus : Bus) (array security : List ℕ) (chip store page : ℕ) (accepted : page_verdict bus array security chip store page ≡ Ok tt) where
   abbrev places : List Place
   places = places_of bus.chips
 
-  both : (first_of (entry_checks bus array security) ≡ Passed) × (page_exists bus.count places chip store page ≡ true)
+  both : (first_of (entry_checks bus array security) ≡ Ok tt) × (page_exists bus.count places chip store page ≡ true)
   unfolding page_verdict
   both =
       let none = (passed_exactly_when (page_checks bus array security chip store page)).0 (ap status_of accepted) in

@@ -9,7 +9,7 @@ use lib.Dec.{ltb}
 use borrow.Author.Tests.{le-ltb}
 use Rattle.parts.proofs.part.Laws.{sound_of, no_security}
 use Rattle.refusal.specs.declared.Refusal.TheVariants.{WrongValue}
-use Rattle.refusal.specs.declared.Verdict.TheVariants.{Passed, Refused}
+use Rattle.std.specs.Prelude.{Ok, Err}
 use Rattle.refusal.specs.Checks.{first_of}
 use Rattle.refusal.proofs.Checks.{passed_first}
 use Rattle.board.specs.declared.Place.{Place}
@@ -21,9 +21,9 @@ use Rattle.bus.specs.Step.{entry_checks}
 use Rattle.pages.specs.Page.{page_exists, page_verdict}
 
 -- the page question on the security store is 7 for every page, once 10 and 5 pass
-pub no_security_page : (bus : Bus) (array security : List ℕ) (chip page : ℕ) → first_of (entry_checks bus array security) ≡ Passed
+pub no_security_page : (bus : Bus) (array security : List ℕ) (chip page : ℕ) → first_of (entry_checks bus array security) ≡ Ok tt
     → (figures_at (places_of bus.chips) chip).registers ≡ false
-    → page_verdict bus array security chip 1 page ≡ Refused WrongValue
+    → page_verdict bus array security chip 1 page ≡ Err WrongValue
 unfolding page_verdict
 no_security_page bus array security chip page enters without =
     passed_first (entry_checks bus array security) ((not (page_exists bus.count places chip 1 page), WrongValue) ∷ []) enters ∙ rw none

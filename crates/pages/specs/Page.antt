@@ -5,8 +5,8 @@ use Rattle.std.specs.Borrow.{Bor}
 use Rattle.parts.specs.declared.part.Geometry.{Geometry}
 use Rattle.refusal.specs.declared.Refusal.{Refusal}
 use Rattle.refusal.specs.declared.Refusal.TheVariants.{WrongValue}
-use Rattle.refusal.specs.declared.Verdict.{Verdict}
-use Rattle.refusal.specs.declared.Verdict.TheVariants.{Passed, Refused}
+use Rattle.refusal.specs.Verdict.{Verdict}
+use Rattle.std.specs.Prelude.{Ok, Err}
 use Rattle.refusal.specs.Checks.{first_of}
 use Rattle.board.specs.declared.Place.{Place}
 use Rattle.board.specs.Shares.{figures_at, array_start, security_start}
@@ -44,9 +44,9 @@ pub record Shown : Type 1 where
 
 -- where the question is not 0, the empty part at the start of the array store
 abbrev pub shown_by : Verdict → List Place → Bor (List ℕ) → Bor (List ℕ) → ℕ → ℕ → ℕ → Shown
-shown_by Passed places array security chip store page =
+shown_by (Ok tt) places array security chip store page =
     record { store = cond (eqb store 0) array security; at = page_start places chip store page; size = (figures_at places chip).page }
-shown_by (Refused refusal) places array security chip store page = record { store = array; at = 0; size = 0 }
+shown_by (Err refusal) places array security chip store page = record { store = array; at = 0; size = 0 }
 
 abbrev pub page_shown : Bus → Bor (List ℕ) → Bor (List ℕ) → ℕ → ℕ → ℕ → Shown
 page_shown bus array security chip store page =

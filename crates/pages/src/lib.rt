@@ -8,15 +8,15 @@ ghost use Rattle.pages.specs.Page.{pages_of, page_exists, page_start, page_verdi
 ghost use Rattle.parts.specs.Part.{geometry_of};
 ghost use Rattle.board.specs.Shares.{figures_at};
 
-use base::logic::and;
 use board::shares::{array_start, security_start};
 use board::{PLACES, Place};
 use bus::Bus;
 use lineup::places_of;
 use parts::part::geometry_of;
-use refusal::{Refusal, Verdict, is_passed};
+use refusal::Refusal;
 
-// The number of the array store; the security store is 1.
+// The number of the array store; the security store is 1. A number and no enum: any may be asked for, and 7 refuses the others (paper, "The two
+// memories").
 const ARRAY: u8 = 0;
 
 const SECURITY: u8 = 1;
@@ -26,10 +26,12 @@ fn pages_of(part: u8, store: u8) -> u32
     ensures { result ≡ pages_of (geometry_of part) store }
 {
     let figures = geometry_of(part);
-    if store == ARRAY {
-        return figures.array / figures.page;
-    }
-    figures.security / figures.page
+    let region = if store == ARRAY {
+        figures.array
+    } else {
+        figures.security
+    };
+    region / figures.page
 }
 
 // Chip, store and page exist. A page number may be as large as its type allows.
@@ -37,15 +39,11 @@ fn page_exists(count: usize, places: [Place; PLACES], chip: usize, store: u8, pa
     requires { count ≤ 4 }
     ensures { result ≡ page_exists count places chip store page }
 {
-    if count <= chip {
-        return false;
-    }
-    let place = places[chip];
-    let pages = pages_of(place.part, store) as usize;
-    and(store <= SECURITY, page < pages)
+    chip < count && store <= SECURITY && page < pages_of(places[chip].part, store) as usize
 }
 
 // The question: 0, or 10, then 5, then 7.
+#[tactic(auto, unfolding(crate::specs::Page::page_verdict))]
 pub fn page_verdict(
     bus: Bus,
     array: &[u8],
@@ -53,20 +51,14 @@ pub fn page_verdict(
     chip: usize,
     store: u8,
     page: usize,
-) -> Verdict
+) -> Result<(), Refusal>
     ensures { result ≡ page_verdict bus array.now security.now chip store page }
 {
-    let verdict = bus.entry_verdict(array, security);
-    match verdict {
-        Verdict::Refused(refusal) => Verdict::Refused(refusal),
-        Verdict::Passed => {
-            let chips = bus.chips;
-            if page_exists(bus.count, places_of(chips), chip, store, page) {
-                Verdict::Passed
-            } else {
-                Verdict::Refused(Refusal::WrongValue)
-            }
-        }
+    bus.entry_verdict(array, security)?;
+    if page_exists(bus.count, places_of(bus.chips), chip, store, page) {
+        Ok(())
+    } else {
+        Err(Refusal::WrongValue)
     }
 }
 
@@ -75,12 +67,12 @@ fn page_start(places: [Place; PLACES], chip: usize, store: u8, page: usize) -> u
     requires { (chip < 4) × (page < pages_of (figures_at places chip) store) }
     ensures { result ≡ page_start places chip store page }
 {
-    let place = places[chip];
-    let size = geometry_of(place.part).page as usize;
-    if store == ARRAY {
-        return array_start(chip, places) + page * size;
-    }
-    security_start(chip, places) + page * size
+    let start = if store == ARRAY {
+        array_start(chip, places)
+    } else {
+        security_start(chip, places)
+    };
+    start + page * geometry_of(places[chip].part).page as usize
 }
 
 fn between(store: &[u8], at: usize, size: usize) -> &[u8]
@@ -102,16 +94,12 @@ pub fn page<'a>(
 ) -> &'a [u8]
     ensures { Shows (page_shown bus array.entry security.entry chip store page) result }
 {
-    if is_passed(page_verdict(bus, array, security, chip, store, page)) {
-        let chips = bus.chips;
-        let places = places_of(chips);
-        let place = places[chip];
-        let size = geometry_of(place.part).page as usize;
-        let at = page_start(places, chip, store, page);
-        if store == ARRAY {
-            return between(array, at, size);
-        }
-        return between(security, at, size);
-    }
-    between(array, 0, 0)
+    let Ok(()) = page_verdict(bus, array, security, chip, store, page) else {
+        return between(array, 0, 0);
+    };
+    let places = places_of(bus.chips);
+    let at = page_start(places, chip, store, page);
+    let size = geometry_of(places[chip].part).page as usize;
+    let shown = if store == ARRAY { array } else { security };
+    between(shown, at, size)
 }

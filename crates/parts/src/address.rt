@@ -1,5 +1,5 @@
 // The three bits of an address byte between 1010 or 1011 and the read bit, here called its code (paper, "Address byte").
-ghost use Rattle.std.specs.Prelude.{◌≡◌};
+ghost use Rattle.std.specs.Prelude.{◌≡◌, ◌<◌};
 ghost use Rattle.parts.specs.Part.{geometry_of};
 ghost use Rattle.parts.specs.Address.{codes_of, answers, a16_of, share_address};
 
@@ -9,8 +9,10 @@ use crate::part::geometry_of;
 const CODES: u8 = 8;
 
 // How many codes a chip of the part answers.
+#[tactic(auto, using(crate::proofs::address::Laws::of_codes))]
 fn codes_of(part: u8) -> u8
-    ensures { result ≡ codes_of (geometry_of part) }
+    ensures codes { result ≡ codes_of (geometry_of part) }
+    ensures some { 0 < result }
 {
     CODES / geometry_of(part).straps
 }
@@ -33,9 +35,9 @@ pub fn a16_of(part: u8, code: u8) -> bool
 pub fn share_address(part: u8, strap: u8, other: u8, beside: u8) -> bool
     ensures { result ≡ share_address (geometry_of part) strap (geometry_of other) beside }
 {
-    let codes = codes_of(part) as u16;
-    let others = codes_of(other) as u16;
-    let first = (strap as u16) * codes;
-    let second = (beside as u16) * others;
-    base::logic::and(first < second + others, second < first + codes)
+    let codes = u16::from(codes_of(part));
+    let others = u16::from(codes_of(other));
+    let first = u16::from(strap) * codes;
+    let second = u16::from(beside) * others;
+    first < second + others && second < first + codes
 }

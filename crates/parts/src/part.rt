@@ -1,10 +1,10 @@
 // The parts, their figures and abilities (paper, the table of "What the bench plays"; ID bytes: the sheets' Table 11-1).
 ghost use Rattle.std.specs.Prelude.{◌≡◌};
-ghost use Rattle.parts.specs.Part.{is_part, geometry_24csm01, geometry_24cs32, geometry_at24cm01, geometry_of};
+ghost use Rattle.parts.specs.Part.{is_part, geometry_of};
 
 // Source document 000.
 #[derive(Clone, Copy)]
-pub struct Part24CSM01 {}
+pub struct Part24CSM01;
 
 impl Part24CSM01 {
     pub const NUMBER: u8 = 1;
@@ -28,28 +28,11 @@ impl Part24CSM01 {
     pub const REGISTERS: bool = true;
 
     pub const IDENTIFIES: bool = true;
-
-    fn geometry() -> Geometry
-        ensures { result ≡ geometry_24csm01 }
-    {
-        Geometry {
-            array: Part24CSM01::ARRAY,
-            page: Part24CSM01::PAGE,
-            zone: Part24CSM01::ZONE,
-            security: Part24CSM01::SECURITY,
-            readonly: Part24CSM01::READ_ONLY,
-            idpage: Part24CSM01::ID_PAGE,
-            straps: Part24CSM01::STRAPS,
-            id: Part24CSM01::ID,
-            registers: Part24CSM01::REGISTERS,
-            identifies: Part24CSM01::IDENTIFIES,
-        }
-    }
 }
 
 // Source document 001.
 #[derive(Clone, Copy)]
-pub struct Part24CS32 {}
+pub struct Part24CS32;
 
 impl Part24CS32 {
     pub const NUMBER: u8 = 2;
@@ -73,28 +56,11 @@ impl Part24CS32 {
     pub const REGISTERS: bool = true;
 
     pub const IDENTIFIES: bool = true;
-
-    fn geometry() -> Geometry
-        ensures { result ≡ geometry_24cs32 }
-    {
-        Geometry {
-            array: Part24CS32::ARRAY,
-            page: Part24CS32::PAGE,
-            zone: Part24CS32::ZONE,
-            security: Part24CS32::SECURITY,
-            readonly: Part24CS32::READ_ONLY,
-            idpage: Part24CS32::ID_PAGE,
-            straps: Part24CS32::STRAPS,
-            id: Part24CS32::ID,
-            registers: Part24CS32::REGISTERS,
-            identifies: Part24CS32::IDENTIFIES,
-        }
-    }
 }
 
 // Source document 002. It has no zones and no ID: these figures are never read (request E7).
 #[derive(Clone, Copy)]
-pub struct PartAT24CM01 {}
+pub struct PartAT24CM01;
 
 impl PartAT24CM01 {
     pub const NUMBER: u8 = 3;
@@ -118,28 +84,11 @@ impl PartAT24CM01 {
     pub const REGISTERS: bool = false;
 
     pub const IDENTIFIES: bool = false;
-
-    fn geometry() -> Geometry
-        ensures { result ≡ geometry_at24cm01 }
-    {
-        Geometry {
-            array: PartAT24CM01::ARRAY,
-            page: PartAT24CM01::PAGE,
-            zone: PartAT24CM01::ZONE,
-            security: PartAT24CM01::SECURITY,
-            readonly: PartAT24CM01::READ_ONLY,
-            idpage: PartAT24CM01::ID_PAGE,
-            straps: PartAT24CM01::STRAPS,
-            id: PartAT24CM01::ID,
-            registers: PartAT24CM01::REGISTERS,
-            identifies: PartAT24CM01::IDENTIFIES,
-        }
-    }
 }
 
 // A part's figures by value: sizes in bytes, the number of straps, the three ID bytes; and its abilities: it has
 // registers, which 1011 bytes are for, and it identifies itself, which F8h and F9h are for.
-#[derive(Clone, Copy)]
+#[derive(Clone, Copy, Debug, PartialEq, Eq)]
 pub struct Geometry {
     pub array: u32,
     pub page: u32,
@@ -153,12 +102,31 @@ pub struct Geometry {
     pub identifies: bool,
 }
 
+// A part's figures, out of its constants. No trait: a clause names a trait's constant only by a ghost member beside it, so that each figure of each
+// part would stand twice.
+macro_rules! figures {
+    ($part:ident) => {
+        Geometry {
+            array: $part::ARRAY,
+            page: $part::PAGE,
+            zone: $part::ZONE,
+            security: $part::SECURITY,
+            readonly: $part::READ_ONLY,
+            idpage: $part::ID_PAGE,
+            straps: $part::STRAPS,
+            id: $part::ID,
+            registers: $part::REGISTERS,
+            identifies: $part::IDENTIFIES,
+        }
+    };
+}
+
 pub fn is_part(part: u8) -> bool
     ensures { result ≡ is_part part }
 {
-    base::logic::or(
-        part == Part24CSM01::NUMBER,
-        base::logic::or(part == Part24CS32::NUMBER, part == PartAT24CM01::NUMBER),
+    matches!(
+        part,
+        Part24CSM01::NUMBER | Part24CS32::NUMBER | PartAT24CM01::NUMBER
     )
 }
 
@@ -167,11 +135,9 @@ pub fn is_part(part: u8) -> bool
 pub fn geometry_of(part: u8) -> Geometry
     ensures { result ≡ geometry_of part }
 {
-    if part == Part24CSM01::NUMBER {
-        return Part24CSM01::geometry();
+    match part {
+        Part24CSM01::NUMBER => figures!(Part24CSM01),
+        PartAT24CM01::NUMBER => figures!(PartAT24CM01),
+        _ => figures!(Part24CS32),
     }
-    if part == PartAT24CM01::NUMBER {
-        return PartAT24CM01::geometry();
-    }
-    Part24CS32::geometry()
 }

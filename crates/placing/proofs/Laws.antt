@@ -12,7 +12,7 @@ use borrow.Author.Tests.{eqb-true}
 use Rattle.base.proofs.logic.Laws.{and_left, and_right}
 use Rattle.board.specs.declared.Place.{Place}
 use Rattle.transcript.specs.Digit.{is_digit}
-use Rattle.placing.specs.declared.NamedPlace.TheVariants.{Named, Unknown}
+use Rattle.std.specs.Prelude.{Some, None}
 use Rattle.placing.specs.Placing.{colon, is_place, place_of, place_named, places_in, Names}
 
 abbrev passes : List ℕ → Bool
@@ -46,7 +46,7 @@ is_named_lem word place n = rw (n.form, n.first, n.second, n.digits)
 pub named_exactly_when : (word : List ℕ) (place : Place) → (places_in (place_named word) ≡ place ∷ []) ↔ Names word place
 named_exactly_when word place = (go (passes word) refl, is_named_lem word place)
   where
-    go : (test : Bool) → passes word ≡ test → places_in (cond test (Named (named word)) Unknown) ≡ place ∷ [] → Names word place
+    go : (test : Bool) → passes word ≡ test → places_in (cond test (Some (named word)) None) ≡ place ∷ [] → Names word place
     go true is same = let this : named word ≡ place = cc in rw this at (names word is)
     go false is same = let no : ◌≡◌ {A = ℕ} 0 1 = cc in absurd (omega arith)
 
@@ -56,6 +56,6 @@ none_exactly_when word = (some, go (passes word) refl)
     some : places_in (place_named word) ≡ [] → (place : Place) → Names word place → ⊥
     some none place n = let one = is_named_lem word place n in let no : ◌≡◌ {A = ℕ} 0 1 = cc in omega arith
 
-    go : (test : Bool) → passes word ≡ test → ((place : Place) → Names word place → ⊥) → places_in (cond test (Named (named word)) Unknown) ≡ []
+    go : (test : Bool) → passes word ≡ test → ((place : Place) → Names word place → ⊥) → places_in (cond test (Some (named word)) None) ≡ []
     go true is without = absurd (without (named word) (names word is))
     go false is without = refl

@@ -8,6 +8,8 @@ use Rattle.placing.proofs.layout.Board.with_chip.Kinds as with_chip_kinds
 use Rattle.placing.proofs.layout.Board.with_chip.Reads as with_chip_reads
 use Rattle.placing.proofs.layout.Board.of_paper.Kinds as of_paper_kinds
 use Rattle.placing.proofs.layout.Board.of_paper.Reads as of_paper_reads
+use Rattle.placing.proofs.layout.Board.or_paper.Kinds as or_paper_kinds
+use Rattle.placing.proofs.layout.Board.or_paper.Reads as or_paper_reads
 use Rattle.placing.proofs.layout.Board.array_end.Kinds as array_end_kinds
 use Rattle.placing.proofs.layout.Board.array_end.Reads as array_end_reads
 use Rattle.placing.proofs.layout.Board.security_end.Kinds as security_end_kinds
@@ -24,6 +26,9 @@ with_chip_unique κs args x y at_x at_y = same
 
 pub of_paper_unique : Unique of_paper_kinds.ps of_paper_kinds.r of_paper_reads.Post
 of_paper_unique κs args x y at_x at_y = same
+
+pub or_paper_unique : Unique or_paper_kinds.ps or_paper_kinds.r or_paper_reads.Post
+or_paper_unique κs args x y at_x at_y = same
 
 pub array_end_unique : Unique array_end_kinds.ps array_end_kinds.r array_end_reads.Post
 array_end_unique κs args x y at_x at_y of_x of_y = same of_x.1 of_y.1

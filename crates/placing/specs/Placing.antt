@@ -1,9 +1,7 @@
 -- A word that names a place on a board: the part's digit, a colon, the strap's digit. Digits are the transcript's.
-use Rattle.std.specs.Prelude.{ℕ, Bool, true, cond, ◌&&◌, List, [], ◌∷◌, ◌≡◌, eqb, length, get_or}
+use Rattle.std.specs.Prelude.{ℕ, Bool, true, cond, ◌&&◌, List, [], ◌∷◌, ◌≡◌, eqb, length, get_or, Option, Some, None}
 use Rattle.board.specs.declared.Place.{Place}
 use Rattle.transcript.specs.Digit.{digit_of, is_digit}
-use Rattle.placing.specs.declared.NamedPlace.{NamedPlace}
-use Rattle.placing.specs.declared.NamedPlace.TheVariants.{Named, Unknown}
 
 abbrev pub colon : ℕ
 colon = 58
@@ -15,14 +13,14 @@ abbrev pub place_of : ℕ → ℕ → Place
 place_of part strap = record { part = digit_of part; strap = digit_of strap }
 
 -- three bytes that are a place; a word of another form names none
-abbrev pub place_named : List ℕ → NamedPlace
+abbrev pub place_named : List ℕ → Option Place
 place_named word =
-    cond (eqb (length word) 3 && is_place (get_or word 0 0) (get_or word 1 0) (get_or word 2 0)) (Named (place_of (get_or word 0 0) (get_or word 2 0))) Unknown
+    cond (eqb (length word) 3 && is_place (get_or word 0 0) (get_or word 1 0) (get_or word 2 0)) (Some (place_of (get_or word 0 0) (get_or word 2 0))) None
 
 -- the places that a word stands for
-abbrev pub places_in : NamedPlace → List Place
-places_in (Named place) = place ∷ []
-places_in Unknown = []
+abbrev pub places_in : Option Place → List Place
+places_in (Some place) = place ∷ []
+places_in None = []
 
 -- a word of the form PART:STRAP, a digit each, and the place of those digits
 pub record Names (word : List ℕ) (place : Place) : Type 0 where

@@ -1,50 +1,48 @@
 // The board that is asked for: how many chips it has, and where, and how much of a memory it fills.
 ghost use Rattle.std.specs.Prelude.{◌≡◌, ◌≤◌};
-ghost use Rattle.placing.specs.Layout.{bare, with_chip, paper_board, array_end, security_end};
+ghost use Rattle.placing.specs.Layout.{bare, with_chip, paper_board, or_paper, array_end, security_end};
 
-use base::number::least;
 use board::shares::{array_start, security_start};
 use board::{PLACES, Place};
 use parts::part::Part24CS32;
 
-#[derive(Clone, Copy)]
+#[derive(Clone, Copy, Debug, PartialEq, Eq)]
 pub struct Board {
     pub count: usize,
     pub places: [Place; PLACES],
 }
 
 impl Board {
-    pub fn bare() -> Board
+    pub fn bare() -> Self
         ensures { result ≡ bare }
     {
-        Board {
+        Self {
             count: 0,
             places: [Place { part: 0, strap: 0 }; PLACES],
         }
     }
 
     // The next chip stands at a place. A board that is full stays as it is.
-    pub fn with_chip(self, place: Place) -> Board
+    pub fn with_chip(self, place: Place) -> Self
         ensures { result ≡ with_chip self place }
     {
-        let count = self.count;
-        if PLACES <= count {
+        if PLACES <= self.count {
             return self;
         }
         let mut places = self.places;
-        places[count] = place;
-        Board {
-            count: count + 1,
+        places[self.count] = place;
+        Self {
+            count: self.count + 1,
             places,
         }
     }
 
     // Three 24CS32 at straps 0, 1, 2 (paper, "The transcript").
-    pub fn of_paper() -> Board
+    pub fn of_paper() -> Self
         ensures { result ≡ paper_board }
     {
         let part = Part24CS32::NUMBER;
-        Board {
+        Self {
             count: 3,
             places: [
                 Place { part, strap: 0 },
@@ -54,13 +52,24 @@ impl Board {
             ],
         }
     }
+
+    // The board itself, or where it has no chips the paper's.
+    pub fn or_paper(self) -> Self
+        ensures { result ≡ or_paper self }
+    {
+        if self.count == 0 {
+            Self::of_paper()
+        } else {
+            self
+        }
+    }
+
     // Where its arrays end in a memory of some length: no later than the memory does.
     pub fn array_end(self, most: usize) -> usize
         ensures upper_bound { result ≤ most }
         ensures value { result ≡ array_end self most }
     {
-        let places = self.places;
-        least(array_start(self.count, places), most)
+        array_start(self.count, self.places).min(most)
     }
 
     // Its security registers likewise.
@@ -68,7 +77,6 @@ impl Board {
         ensures upper_bound { result ≤ most }
         ensures value { result ≡ security_end self most }
     {
-        let places = self.places;
-        least(security_start(self.count, places), most)
+        security_start(self.count, self.places).min(most)
     }
 }

@@ -3,46 +3,31 @@
 
 pub mod layout;
 
-ghost use Rattle.std.specs.Prelude.{◌≡◌, cond};
+ghost use Rattle.std.specs.Prelude.{◌≡◌, cond, Some, None};
 ghost use Rattle.placing.specs.Placing.{is_place, place_of, place_named};
 
 use board::Place;
-use transcript::digit::{DIGITS, digit_of};
-
-// A digit, the colon, a digit.
-pub const NAME: usize = 3;
+use transcript::digit::digit_value;
 
 const COLON: u8 = b':';
 
-// What a word names. The places of each case: `places_in`, in specs/Placing.antt.
-#[derive(Clone, Copy)]
-pub enum NamedPlace {
-    Named(Place),
-    Unknown,
-}
-
-fn place_of(part: u8, colon: u8, strap: u8) -> NamedPlace
-    ensures { result ≡ cond (is_place part colon strap) (NamedPlace.Named (place_of part strap)) NamedPlace.Unknown }
+fn place_of(part: u8, colon: u8, strap: u8) -> Option<Place>
+    ensures { result ≡ cond (is_place part colon strap) (Some (place_of part strap)) None }
 {
-    let part = digit_of(part);
-    let strap = digit_of(strap);
-    if DIGITS <= part {
-        return NamedPlace::Unknown;
-    }
+    let part = digit_value(part)?;
     if colon != COLON {
-        return NamedPlace::Unknown;
+        return None;
     }
-    if DIGITS <= strap {
-        return NamedPlace::Unknown;
-    }
-    NamedPlace::Named(Place { part, strap })
+    let strap = digit_value(strap)?;
+    Some(Place { part, strap })
 }
 
-pub fn place_named(word: &[u8]) -> NamedPlace
+// The place that a word names: a digit, the colon, a digit.
+pub fn place_named(word: &[u8]) -> Option<Place>
     ensures { result ≡ place_named word.now }
 {
-    if word.len() != NAME {
-        return NamedPlace::Unknown;
-    }
-    place_of(word[0], word[1], word[2])
+    let [part, colon, strap] = word else {
+        return None;
+    };
+    place_of(*part, *colon, *strap)
 }

@@ -9,10 +9,8 @@ use mathlib.Core.Path.{◌≡◌, ◌∙◌, refl, sym, ap}
 use lib.ListN.{length, get_or, take, length-append, get_or-append}
 use lib.Seq.{take-append_seam, get_or-append-add, get_or-append_seam}
 use Rattle.base.specs.Every.{AllBytes}
-use Rattle.refusal.specs.declared.Verdict.{Verdict}
-use Rattle.refusal.specs.declared.Verdict.TheVariants.{Passed}
-use Rattle.refusal.specs.declared.Answer.{Answer}
-use Rattle.refusal.specs.declared.Answer.TheVariants as answer
+use Rattle.refusal.specs.Verdict.{Verdict, Answer}
+use Rattle.std.specs.Prelude.{Ok, Err}
 use Rattle.refusal.specs.Refusal.{status_in, answer_word}
 use Rattle.refusal.proofs.Checks.{Given}
 use Rattle.bus.specs.declared.Bus.{Bus}
@@ -30,12 +28,12 @@ use Rattle.promises.proofs.Runs.{run_is_its_steps}
 
 -- a refusal is given as its number times 256, and no reply that is a byte looks like one
 refused_word : (a : Answer) (n : ℕ) → 0 < n → status_in a ≡ n → answer_word a ≡ n * 256
-refused_word (answer.Done reply) n some is = absurd (omega (arith, is))
-refused_word (answer.Refused refusal) n some is = omega (arith, is)
+refused_word (Ok reply) n some is = absurd (omega (arith, is))
+refused_word (Err refusal) n some is = omega (arith, is)
 
 word_refused : (a : Answer) → AnswerByte a → (n : ℕ) → 0 < n → answer_word a ≡ n * 256 → status_in a ≡ n
-word_refused (answer.Done reply) byte n some is = absurd (omega (arith, is))
-word_refused (answer.Refused refusal) byte n some is = omega (arith, is)
+word_refused (Ok reply) byte n some is = absurd (omega (arith, is))
+word_refused (Err refusal) byte n some is = omega (arith, is)
 
 after_bytes : (world : World) (events : List ℕ) → HoldsBytes world.0 world.1 world.2
     → let now = after step world events in HoldsBytes now.0 now.1 now.2
@@ -49,8 +47,8 @@ refused_stays : (world : World) (word n : ℕ) → 0 < n → status_in (stepped 
 refused_stays world word n some is = go (stepped step world word).0.answer refl is
   where
     go : (a : Answer) → (stepped step world word).0.answer ≡ a → status_in a ≡ n → after_one step world word ≡ world
-    go (answer.Done reply) said given = absurd (omega (arith, given))
-    go (answer.Refused refusal) said given = ap led_to (refused_step_leaves_all world.0 world.1 world.2 word refusal said)
+    go (Ok reply) said given = absurd (omega (arith, given))
+    go (Err refusal) said given = ap led_to (refused_step_leaves_all world.0 world.1 world.2 word refusal said)
 
 -- two buffers whose answers differ by one that only the first has
 module _ (first later rest rest' : List ℕ) (word : ℕ) where
@@ -82,7 +80,7 @@ module _ (bus : Bus) (array security : List ℕ) (typed : OfItsType bus) where
   abbrev reached : List ℕ → ℕ → World
   reached events i = after step (bus, array, security) (take i events)
 
-  module _ (events answers : List ℕ) (passes : (run bus array security events answers).0 ≡ Passed) where
+  module _ (events answers : List ℕ) (passes : (run bus array security events answers).0 ≡ Ok tt) where
     word_is : (i : ℕ) → i < length events → get_or (run bus array security events answers).1.3 i 0 ≡ answer_to step (reached events i) (get_or events i 0)
     word_is i below =
         ap (λ (ran : Verdict × Progress). get_or ran.1.3 i 0) (run_is_its_steps bus array security events answers typed passes)
@@ -102,7 +100,7 @@ module _ (bus : Bus) (array security : List ℕ) (typed : OfItsType bus) where
         (λ given. exactly.0 (word_refused said byte n some (sym (word_is i below) ∙ given)), λ holds. word_is i below ∙ refused_word said n some (exactly.1 holds))
 
   -- an event that a run refuses leaves everything but its word: a run of the list without it ends alike and answers alike
-  module _ (before : List ℕ) (word : ℕ) (rest answers others : List ℕ) (passes : (run bus array security (before ++ (word ∷ rest)) answers).0 ≡ Passed) (passes' : (run bus array security (before ++ rest) others).0 ≡ Passed) where
+  module _ (before : List ℕ) (word : ℕ) (rest answers others : List ℕ) (passes : (run bus array security (before ++ (word ∷ rest)) answers).0 ≡ Ok tt) (passes' : (run bus array security (before ++ rest) others).0 ≡ Ok tt) where
     abbrev now : World
     now = after step world before
 

@@ -20,10 +20,8 @@ use Rattle.chip.proofs.Typed.{ChipTyped}
 use Rattle.promises.specs.ChipBytes.{ChipBytes, SaidByte, EventByte, StepBytes}
 use Rattle.promises.proofs.Keeping.Bytes.{bytes_stay_bytes, values_stay_bytes}
 use Rattle.promises.proofs.Keeping.Typed.{chip_bytes}
-use Rattle.refusal.specs.declared.Verdict.{Verdict}
-use Rattle.refusal.specs.declared.Verdict.TheVariants.{Passed, Refused}
-use Rattle.refusal.specs.declared.Answer.{Answer}
-use Rattle.refusal.specs.declared.Answer.TheVariants as answer
+use Rattle.refusal.specs.Verdict.{Verdict, Answer}
+use Rattle.std.specs.Prelude.{Ok, Err}
 use Rattle.refusal.specs.Checks.{first_of}
 use Rattle.board.specs.declared.Place.{Place}
 use Rattle.board.specs.Place.{placed}
@@ -121,8 +119,8 @@ reply_byte event (Byte byte) is = is
 
 -- a reply is a byte
 abbrev pub AnswerByte : Answer → Type 0
-AnswerByte (answer.Done reply) = FitsByte reply
-AnswerByte (answer.Refused refusal) = Unit {0}
+AnswerByte (Ok reply) = FitsByte reply
+AnswerByte (Err refusal) = Unit {0}
 
 abbrev EndsInBytes : Stepped × List ℕ × List ℕ → Type 0
 EndsInBytes next = HoldsBytes next.0.bus next.1 next.2 × AnswerByte next.0.answer
@@ -139,11 +137,11 @@ typed_holds_bytes bus array security typed in_array in_security =
 module _ (bus : Bus) (array security : List ℕ) (word : ℕ) (now : HoldsBytes bus array security) where
   ends_in_bytes : (verdict : Verdict) → EndsInBytes (step_by verdict bus array security word)
   unfolding played
-  ends_in_bytes Passed =
+  ends_in_bytes (Ok tt) =
       done_bytes (event_of (addressed_of bus.started word)) bus.count bus.started (play (addressed_of bus.started word) bus.count bus.chips bus.values array security) (values_after (addressed_of bus.started word) bus.count bus.chips bus.values)
       (play_bytes (addressed_of bus.started word) bus array security (brings_a_byte bus.started word) now)
       (values_bytes (addressed_of bus.started word) bus.count bus.chips bus.values (brings_a_byte bus.started word) now.in_values)
-  ends_in_bytes (Refused refusal) = (now, tt)
+  ends_in_bytes (Err refusal) = (now, tt)
 
   pub every_step_keeps_bytes : let next = step bus array security word in HoldsBytes next.0.bus next.1 next.2
   every_step_keeps_bytes = rw (step_by_checks bus array security word) (ends_in_bytes (first_of (step_checks bus array security word))).0

@@ -9,8 +9,8 @@ use lib.ListN.{length, get_or, take, drop}
 use Rattle.base.specs.Every.{AllBytes}
 use Rattle.base.proofs.Call.{Call}
 use Rattle.chip.specs.declared.Stepped as chip
-use Rattle.refusal.specs.declared.Verdict.{Verdict}
-use Rattle.refusal.specs.declared.Verdict.TheVariants.{Passed}
+use Rattle.refusal.specs.Verdict.{Verdict}
+use Rattle.std.specs.Prelude.{Ok}
 use Rattle.refusal.specs.Refusal.{status_in}
 use Rattle.refusal.specs.Checks.{first_of}
 use Rattle.refusal.proofs.Checks.{Given, status_passed}
@@ -85,10 +85,10 @@ module _ (call : StepCall) where
       mine = own (addressed_of step_from.0.started step_word) step_from.0.chips step_from.0.values step_from.1 step_from.2 i
 
   -- it leaves a bus that passes the checks at entry where it was given one
-  pub a_step_keeps_the_bus_well_formed : first_of (entry_checks step_from.0 step_from.1 step_from.2) ≡ Passed
-      → first_of (entry_checks step_made.0.bus step_made.1 step_made.2) ≡ Passed
+  pub a_step_keeps_the_bus_well_formed : first_of (entry_checks step_from.0 step_from.1 step_from.2) ≡ Ok tt
+      → first_of (entry_checks step_made.0.bus step_made.1 step_made.2) ≡ Ok tt
   a_step_keeps_the_bus_well_formed enters =
-      subst (λ (m : Made). first_of (entry_checks m.0.bus m.1 m.2) ≡ Passed)
+      subst (λ (m : Made). first_of (entry_checks m.0.bus m.1 m.2) ≡ Ok tt)
       (sym call.ensured)
       (step_keeps step_from.0 step_from.1 step_from.2 step_word step_from_typed enters).enters
 
@@ -126,14 +126,14 @@ pub record Plays (call : RunCall) (world : World) (events : List ℕ) : Type 0 w
 
 -- it passes, and ends where its list does; past the answers the buffer is as it was
 pub record Returned (call : RunCall) (world : World) (events : List ℕ) : Type 0 where
-  pub verdict : call.result.verdict ≡ Passed
+  pub verdict : call.result.verdict ≡ Ok tt
   pub ends : (run_end call).0 ≡ after step world events
   pub answers : (run_end call).1 ≡ answers_to step world events ++ drop (length events) (run_buffer call)
 
 pub world_typed : (call : RunCall) (world : World) (events : List ℕ) → Plays call world events → OfItsType world.0
 world_typed call world events plays = subst (λ (w : World). OfItsType w.0) plays.from_there (run_from_typed call)
 
-module _ (call : RunCall) (world : World) (events : List ℕ) (plays : Plays call world events) (enters : first_of (entry_checks world.0 world.1 world.2) ≡ Passed) where
+module _ (call : RunCall) (world : World) (events : List ℕ) (plays : Plays call world events) (enters : first_of (entry_checks world.0 world.1 world.2) ≡ Ok tt) where
   typed : OfItsType world.0
   typed = world_typed call world events plays
 
@@ -143,7 +143,7 @@ module _ (call : RunCall) (world : World) (events : List ℕ) (plays : Plays cal
       ∙ ap (λ (w : World). run w.0 w.1 w.2 (run_events call) (run_buffer call)) plays.from_there
       ∙ ap (λ (list : List ℕ). run world.0 world.1 world.2 list (run_buffer call)) plays.the_list
 
-  passes : (run world.0 world.1 world.2 events (run_buffer call)).0 ≡ Passed
+  passes : (run world.0 world.1 world.2 events (run_buffer call)).0 ≡ Ok tt
   passes = run_passes world.0 world.1 world.2 events (run_buffer call) enters plays.room
 
   -- a run is its steps
@@ -156,9 +156,9 @@ module _ (call : RunCall) (world : World) (events : List ℕ) (plays : Plays cal
         answers = ap (λ (ran : Verdict × Progress). ran.1.3) is;
       }
 
-  pub a_run_keeps_the_bus_well_formed : first_of (entry_checks (run_end call).0.0 (run_end call).0.1 (run_end call).0.2) ≡ Passed
+  pub a_run_keeps_the_bus_well_formed : first_of (entry_checks (run_end call).0.0 (run_end call).0.1 (run_end call).0.2) ≡ Ok tt
   a_run_keeps_the_bus_well_formed =
-      subst (λ (ran : Verdict × Progress). first_of (entry_checks ran.1.0 ran.1.1 ran.1.2) ≡ Passed) (sym as_run)
+      subst (λ (ran : Verdict × Progress). first_of (entry_checks ran.1.0 ran.1.1 ran.1.2) ≡ Ok tt) (sym as_run)
       (run_keeps_the_bus_well_formed world.0 world.1 world.2 events (run_buffer call) typed passes).0
 
   -- "given exactly when", of the words that its caller finds in the buffer
@@ -171,7 +171,7 @@ module _ (call : RunCall) (world : World) (events : List ℕ) (plays : Plays cal
       (λ word. exactly.0 (sym there ∙ word), λ holds. there ∙ exactly.1 holds)
 
 -- a call of a list with an event that it refuses, and a call of the list without it
-pub a_refused_event_leaves_all_but_its_word : (world : World) → first_of (entry_checks world.0 world.1 world.2) ≡ Passed
+pub a_refused_event_leaves_all_but_its_word : (world : World) → first_of (entry_checks world.0 world.1 world.2) ≡ Ok tt
     → (before : List ℕ) (word : ℕ) (rest : List ℕ) (one other : RunCall) → Plays one world (before ++ (word ∷ rest)) → Plays other world (before ++ rest)
     → (n : ℕ) → 0 < n → let now = after step world before in Given (step_checks now.0 now.1 now.2 word) n
     → (get_or (run_end one).1 (length before) 0 ≡ n * 256) × ButForItsWord before rest (run_leaves one) (run_leaves other)

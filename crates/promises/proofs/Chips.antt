@@ -11,7 +11,6 @@ use Rattle.control.specs.declared.Said.{Said}
 use Rattle.control.specs.declared.Said.TheVariants.{Nothing}
 use Rattle.chip.specs.declared.Chip.{Chip}
 use Rattle.chip.specs.declared.Stepped.{Stepped}
-use Rattle.chip.specs.Chip.{step}
 use Rattle.promises.proofs.Keeping.Lengths.{Long, lengths_kept}
 use Rattle.board.specs.declared.Place.{Place}
 use Rattle.board.specs.Place.{placed}

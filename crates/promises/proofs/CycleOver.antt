@@ -12,7 +12,7 @@ use Rattle.base.proofs.Fold.{none_any}
 use Rattle.control.specs.Phase.{is_busy}
 use Rattle.chip.specs.declared.Chip.{Chip}
 use Rattle.chip.specs.declared.event.Event.TheVariants.{Start, Stop, Sent, Read, Wp, CycleOver, PowerUp}
-use Rattle.refusal.specs.declared.Verdict.TheVariants.{Passed}
+use Rattle.std.specs.Prelude.{Ok}
 use Rattle.refusal.specs.Refusal.{status_in}
 use Rattle.refusal.specs.Checks.{first_of}
 use Rattle.board.specs.Place.{placed}
@@ -45,7 +45,7 @@ asks_its_chip started kind value chips = go (eqb kind 1) (eqb kind 2) (eqb kind 
 module _ (bus : Bus) (array security : List ℕ) (word : ℕ) where
   -- an event that passes 10, 5, 6 and 7, and is 07
   abbrev pub IsCycleOver : Type 0
-  IsCycleOver = (first_of (entry_checks bus array security) ≡ Passed) × (first_of (decode_checks bus.count word) ≡ Passed) × (kind_of word ≡ 7)
+  IsCycleOver = (first_of (entry_checks bus array security) ≡ Ok tt) × (first_of (decode_checks bus.count word) ≡ Ok tt) × (kind_of word ≡ 7)
 
   abbrev pub is_its_chip_busy : Bool
   is_its_chip_busy = is_busy (control_at bus.chips (value_of word)).phase

@@ -4,8 +4,8 @@ use Prim.Native.Nat.{ℕ, ◌<◌}
 use mathlib.Core.List.{List}
 use mathlib.Core.Logic.{◌↔◌}
 use mathlib.Core.Path.{◌≡◌, refl}
-use Rattle.refusal.specs.declared.Verdict.{Verdict}
-use Rattle.refusal.specs.declared.Verdict.TheVariants.{Passed, Refused}
+use Rattle.refusal.specs.Verdict.{Verdict}
+use Rattle.std.specs.Prelude.{Ok, Err}
 use Rattle.refusal.specs.Refusal.{status_of, status_in}
 use Rattle.refusal.specs.Checks.{first_of}
 use Rattle.refusal.proofs.Checks.{Checks, Given, NoneHolds, given_exactly_when, passed_exactly_when}
@@ -25,8 +25,8 @@ module _ (count : ℕ) (places : List Place) (array security : List ℕ) where
   set_up_says = go (first_of at_set_up)
     where
       go : (verdict : Verdict) → status_of (set_up_by verdict count places).verdict ≡ status_of verdict
-      go Passed = refl
-      go (Refused refusal) = refl
+      go (Ok tt) = refl
+      go (Err refusal) = refl
 
   pub set_up_exactly_when : (n : ℕ) → 0 < n
       → (status_of (set_up count places array security).verdict ≡ n) ↔ Given (set_up_checks count places array security) n
@@ -44,8 +44,8 @@ module _ (bus : Bus) (array security : List ℕ) (word : ℕ) where
   step_says = rw (step_by_checks bus array security word) (go (first_of at_step))
     where
       go : (verdict : Verdict) → status_in (step_by verdict bus array security word).0.answer ≡ status_of verdict
-      go Passed = refl
-      go (Refused refusal) = refl
+      go (Ok tt) = refl
+      go (Err refusal) = refl
 
   pub step_exactly_when : (n : ℕ) → 0 < n
       → (status_in (step bus array security word).0.answer ≡ n) ↔ Given (step_checks bus array security word) n
@@ -63,8 +63,8 @@ module _ (bus : Bus) (array security events answers : List ℕ) where
   run_says = go (first_of at_run)
     where
       go : (verdict : Verdict) → status_of (run_by verdict events (bus, array, security, answers)).0 ≡ status_of verdict
-      go Passed = refl
-      go (Refused refusal) = refl
+      go (Ok tt) = refl
+      go (Err refusal) = refl
 
   pub run_exactly_when : (n : ℕ) → 0 < n
       → (status_of (run bus array security events answers).0 ≡ n) ↔ Given (run_checks bus array security events answers) n

@@ -16,9 +16,10 @@ use Rattle.chip.specs.declared.Chip.{Chip}
 use Rattle.wellformed.specs.Wellformed.{heeds_start}
 use Rattle.wellformed.specs.Wellformed as alone
 use Rattle.wellformed.specs.Beside.{side_by_side}
-use Rattle.refusal.specs.declared.Verdict.TheVariants.{Passed}
+use Rattle.std.specs.Prelude.{Ok}
 use Rattle.refusal.specs.Refusal.{status_of}
-use Rattle.refusal.specs.Checks.{first_of, is_passed}
+use Rattle.refusal.specs.Checks.{first_of}
+use Rattle.std.specs.Result.{is_ok}
 use Rattle.refusal.proofs.Checks.{Checks, NoneHolds, passed_exactly_when}
 use Rattle.board.specs.declared.Place.{Place}
 use Rattle.board.specs.Place.{placed}
@@ -33,12 +34,12 @@ use Rattle.bus.specs.Step.{entry_checks}
 use Rattle.bus.proofs.Entry.{passed, entered}
 
 -- checks that pass find nothing
-pub none_holds : (checks : Checks) → first_of checks ≡ Passed → NoneHolds checks
+pub none_holds : (checks : Checks) → first_of checks ≡ Ok tt → NoneHolds checks
 none_holds checks passed = (passed_exactly_when checks).0 (ap status_of passed)
 
 -- what `well_formed` tests
 pub record Formed (count : ℕ) (started : Bool) (chips : List Chip) : Type 0 where
-  pub set_up_lem : board_verdict count (places_of chips) ≡ Passed
+  pub set_up_lem : board_verdict count (places_of chips) ≡ Ok tt
   pub fit : (i : ℕ) → i < placed count → alone.well_formed (chip_at chips i) ≡ true
   pub apart : (i j : ℕ) → i < placed count → j < i → side_by_side (control_at chips i) (control_at chips j) ≡ true
   pub heed : (i : ℕ) → i < placed count → heeds_start started (control_at chips i).phase ≡ true
@@ -68,7 +69,7 @@ module _ (count : ℕ) (started : Bool) (chips : List Chip) where
   pub of_formed : Formed count started chips → well_formed count started chips ≡ true
   unfolding well_formed
   of_formed formed =
-      and_both (set_up_passes count chips) _ (ap is_passed formed.set_up_lem)
+      and_both (set_up_passes count chips) _ (ap is_ok formed.set_up_lem)
       (and_both (chips_fit count chips) _ (all_each fits (placed count) formed.fit)
       (and_both (chips_apart count chips) _ (all_pairs_each beside (placed count) formed.apart) (all_each heeds (placed count) formed.heed)))
 
@@ -100,8 +101,8 @@ module _ (bus : Bus) (array security : List ℕ) where
       × (length array ≡ array_start places (placed bus.count))
       × (length security ≡ security_start places (placed bus.count))
 
-  pub entry_of : first_of (entry_checks bus array security) ≡ Passed → EntryHolds
+  pub entry_of : first_of (entry_checks bus array security) ≡ Ok tt → EntryHolds
   entry_of enters = let e = entered bus array security enters in (e.formed, e.array_fits, e.security_fits)
 
-  pub of_entry : EntryHolds → first_of (entry_checks bus array security) ≡ Passed
+  pub of_entry : EntryHolds → first_of (entry_checks bus array security) ≡ Ok tt
   of_entry entry = rw (entry.0, eq-eqb _ _ entry.1, eq-eqb _ _ entry.2)

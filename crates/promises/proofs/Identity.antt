@@ -30,7 +30,7 @@ use Rattle.chip.specs.declared.event.Event.{Event}
 use Rattle.chip.specs.declared.event.Event.TheVariants.{Start, Sent, Read}
 use Rattle.chip.specs.Chip.{fresh, quiet, step, values_after}
 use Rattle.wellformed.specs.Beside.{side_by_side}
-use Rattle.refusal.specs.declared.Verdict.TheVariants.{Passed}
+use Rattle.std.specs.Prelude.{Ok}
 use Rattle.refusal.specs.Refusal.{answer_word}
 use Rattle.refusal.specs.Checks.{first_of}
 use Rattle.refusal.proofs.Checks.{passed_first}
@@ -109,7 +109,7 @@ unfolding step values_after take span_after taking.values_after take_address tak
 seven_id_bytes = refl
 
 -- a line that passes the checks at entry, and one of its chips
-module _ (world : World) (typed : OfItsType (bus_of world)) (enters : first_of (entry_checks (bus_of world) (array_of world) (security_of world)) ≡ Passed) (k : ℕ) (below : k < (bus_of world).count) where
+module _ (world : World) (typed : OfItsType (bus_of world)) (enters : first_of (entry_checks (bus_of world) (array_of world) (security_of world)) ≡ Ok tt) (k : ℕ) (below : k < (bus_of world).count) where
   abbrev count : ℕ
   count = (bus_of world).count
 
@@ -134,10 +134,10 @@ module _ (world : World) (typed : OfItsType (bus_of world)) (enters : first_of (
       go (no p) (no q) = absurd (differ (omega arith))
 
   -- an event to all that clashes with no chip passes all checks
-  passes : (word : ℕ) (event : Event) → first_of (decode_checks count word) ≡ Passed → addressed_of (bus_of world).started word ≡ ToAll event
+  passes : (word : ℕ) (event : Event) → first_of (decode_checks count word) ≡ Ok tt → addressed_of (bus_of world).started word ≡ ToAll event
       → ((j : ℕ) → j < placed count → (j ≡ k → ⊥) → clashes_with event (control_at chips j).phase ≡ false)
       → clashes_with event (control_at chips k).phase ≡ false
-      → first_of (step_checks (bus_of world) (array_of world) (security_of world) word) ≡ Passed
+      → first_of (step_checks (bus_of world) (array_of world) (security_of world) word) ≡ Ok tt
   passes word event decodes asks others mine =
       passed_first (entry_checks (bus_of world) (array_of world) (security_of world)) (event_checks (bus_of world) word) enters
       ∙ passed_first (decode_checks count word) (line_checks (addressed_of (bus_of world).started word) count chips) decodes
@@ -148,7 +148,7 @@ module _ (world : World) (typed : OfItsType (bus_of world)) (enters : first_of (
     able : (geometry_of (control_at chips k).part).identifies ≡ true
     able = chosen_identifies (chip_at chips k) ((formed_of count (bus_of world).started chips entry.formed).fit k here) asked.chosen
 
-    f9_passes : first_of (step_checks (bus_of world) (array_of world) (security_of world) (word_of 3 0xF9)) ≡ Passed
+    f9_passes : first_of (step_checks (bus_of world) (array_of world) (security_of world) (word_of 3 0xF9)) ≡ Ok tt
     unfolding addressed_of
     f9_passes =
         passes (word_of 3 0xF9) (Sent (bus_of world).started 0xF9) refl refl
@@ -180,10 +180,10 @@ module _ (world : World) (typed : OfItsType (bus_of world)) (enters : first_of (
     is_sending_lem : is_sending (control_at chips k).phase ≡ true
     is_sending_lem = ap (λ (d : Chip). is_sending d.control.phase) sends
 
-    read_passes : first_of (step_checks (bus_of world) (array_of world) (security_of world) (read_word nack)) ≡ Passed
+    read_passes : first_of (step_checks (bus_of world) (array_of world) (security_of world) (read_word nack)) ≡ Ok tt
     read_passes =
         passes (read_word nack) (Read nack)
-        (either (λ (reply : ℕ). first_of (decode_checks count (word_of 4 reply)) ≡ Passed) nack 1 0 refl refl)
+        (either (λ (reply : ℕ). first_of (decode_checks count (word_of 4 reply)) ≡ Ok tt) nack 1 0 refl refl)
         asks
         (λ j before differ. no_other_takes (control_at chips k) (control_at chips j) (others_beside j before differ) is_sending_lem)
         (ap (λ (d : Chip). is_taking d.control.phase) sends)
@@ -205,12 +205,12 @@ module _ (world : World) (typed : OfItsType (bus_of world)) (enters : first_of (
 -- a line on which chip k has sent n ID bytes and goes on
 record Identifies (c : Chip) (k n : ℕ) (now : World) : Type 0 where
   typed : OfItsType (bus_of now)
-  enters : first_of (entry_checks (bus_of now) (array_of now) (security_of now)) ≡ Passed
+  enters : first_of (entry_checks (bus_of now) (array_of now) (security_of now)) ≡ Ok tt
   below : k < (bus_of now).count
   sends : chip_at (bus_of now).chips k ≡ identifies c n
 
 after_word : (world : World) (word : ℕ) (c : Chip) (k n : ℕ) → OfItsType (bus_of world)
-    → first_of (entry_checks (bus_of world) (array_of world) (security_of world)) ≡ Passed
+    → first_of (entry_checks (bus_of world) (array_of world) (security_of world)) ≡ Ok tt
     → k < (bus_of world).count
     → chip_at (after_one bus.step world word).0.chips k ≡ identifies c n
     → Identifies c k n (after_one bus.step world word)
@@ -230,7 +230,7 @@ reads_on_lem c k (suc m) from to is now i =
     ∙ ap (λ (at : Stepped × List ℕ × List ℕ). at.0.chip) (goes_on c _ _ _ from)))
 
 pub id_goes_round_on_the_line : (world : World) → OfItsType (bus_of world)
-    → first_of (entry_checks (bus_of world) (array_of world) (security_of world)) ≡ Passed
+    → first_of (entry_checks (bus_of world) (array_of world) (security_of world)) ≡ Ok tt
     → (k : ℕ) → k < (bus_of world).count
     → IsAsked (control_at (bus_of world).chips k)
     → (n : ℕ) (nack : Bool)

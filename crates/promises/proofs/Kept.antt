@@ -24,8 +24,8 @@ use Rattle.promises.proofs.Keeping.Heeding.{heeds_kept}
 use Rattle.promises.proofs.Keeping.Registers.{part_kept, strap_kept}
 use Rattle.promises.proofs.Keeping.Typed.{chip_typed_kept, values_long_kept}
 use Rattle.promises.proofs.Keeping.Beside.{names_a_chip, named_kept, side_by_side_kept, beside_sym}
-use Rattle.refusal.specs.declared.Verdict.{Verdict}
-use Rattle.refusal.specs.declared.Verdict.TheVariants.{Passed, Refused}
+use Rattle.refusal.specs.Verdict.{Verdict}
+use Rattle.std.specs.Prelude.{Ok, Err}
 use Rattle.refusal.specs.Checks.{first_of}
 use Rattle.board.specs.Place.{nowhere, placed}
 use Rattle.board.specs.Shares.{array_start, security_start}
@@ -34,7 +34,6 @@ use Rattle.decode.specs.declared.Addressed.TheVariants.{ToAll, ToOne}
 use Rattle.decode.specs.Decode.{kind_of, addressed_of, reaches, event_of}
 use Rattle.decode.specs.Hearing.{clashes_with}
 use Rattle.lineup.specs.Chips.{no_chip, chip_at, control_at, place_of, places_of}
-use Rattle.lineup.specs.Wellformed.{well_formed}
 use Rattle.line.specs.declared.Played.{Played}
 use Rattle.line.specs.Line.{clash, play, chip_loads, values_after}
 use Rattle.bus.specs.declared.Bus.{Bus}
@@ -47,7 +46,7 @@ use Rattle.promises.proofs.Chips.{each_chip_takes_its_own, the_rest_stays, store
 use Rattle.promises.proofs.Formed.{none_holds, Formed, formed_of, of_formed, unshared, EntryHolds, entry_of, of_entry}
 
 -- checks of the line that pass find no chip that clashes
-no_clash : (addressed : Addressed) (bus : Bus) (word : ℕ) → addressed ≡ addressed_of bus.started word → first_of (event_checks bus word) ≡ Passed → clash (event_of addressed) bus.count bus.chips ≡ false
+no_clash : (addressed : Addressed) (bus : Bus) (word : ℕ) → addressed ≡ addressed_of bus.started word → first_of (event_checks bus word) ≡ Ok tt → clash (event_of addressed) bus.count bus.chips ≡ false
 no_clash addressed bus word is passes = rw is (none_holds (event_checks bus word) passes).1.1.1.0
 
 -- an event that names a chip keeps the Start that is remembered
@@ -181,18 +180,18 @@ values_long_still addressed count chips values =
 
 -- what an event leaves: a bus that passes the checks at entry, of its type, with the same places and as many chips
 pub record Kept (bus : Bus) (next : Made) : Type 0 where
-  pub enters : first_of (entry_checks next.0.bus next.1 next.2) ≡ Passed
+  pub enters : first_of (entry_checks next.0.bus next.1 next.2) ≡ Ok tt
   pub typed : OfItsType next.0.bus
   pub places : places_of next.0.bus.chips ≡ places_of bus.chips
   pub count : next.0.bus.count ≡ bus.count
 
 -- one that is played keeps all of it, and one that is refused leaves everything
-pub event_keeps : (bus : Bus) (array security : List ℕ) (word : ℕ) → OfItsType bus → first_of (entry_checks bus array security) ≡ Passed → Kept bus (event bus array security word)
+pub event_keeps : (bus : Bus) (array security : List ℕ) (word : ℕ) → OfItsType bus → first_of (entry_checks bus array security) ≡ Ok tt → Kept bus (event bus array security word)
 unfolding event played
 event_keeps bus array security word typed passed = go (first_of (event_checks bus word)) refl
   where
     go : (verdict : Verdict) → first_of (event_checks bus word) ≡ verdict → Kept bus (step_by verdict bus array security word)
-    go Passed passes =
+    go (Ok tt) passes =
         let (formed, array_fits, security_fits) = entry_of bus array security passed in
         let addressed = addressed_of bus.started word in
         let next = played addressed bus array security in
@@ -212,4 +211,4 @@ event_keeps bus array security word typed passed = go (first_of (event_checks bu
           places = places_stay addressed bus.count bus.chips bus.values array security four array_fits security_fits;
           count = refl;
         }
-    go (Refused refusal) is = record { enters = passed; typed = typed; places = refl; count = refl }
+    go (Err refusal) is = record { enters = passed; typed = typed; places = refl; count = refl }

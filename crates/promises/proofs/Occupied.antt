@@ -31,9 +31,8 @@ use Rattle.chip.specs.declared.Chip.{Chip}
 use Rattle.chip.specs.declared.event.Event.TheVariants.{Sent}
 use Rattle.chip.specs.Chip as chip
 use Rattle.wellformed.specs.Wellformed.{heeds_start}
-use Rattle.refusal.specs.declared.Verdict.TheVariants.{Passed}
-use Rattle.refusal.specs.declared.Answer.{Answer}
-use Rattle.refusal.specs.declared.Answer.TheVariants as answer
+use Rattle.std.specs.Prelude.{Ok, Err}
+use Rattle.refusal.specs.Verdict.{Answer}
 use Rattle.refusal.specs.Checks.{first_of}
 use Rattle.board.specs.Place.{placed}
 use Rattle.decode.specs.declared.Addressed.{Addressed}
@@ -160,10 +159,10 @@ module _ (count : ℕ) (started : Bool) (chips : List Chip) (formed : well_forme
 
 -- the same of a step that is done
 abbrev reply_in : Answer → ℕ
-reply_in (answer.Done reply) = reply
-reply_in (answer.Refused refusal) = 0
+reply_in (Ok reply) = reply
+reply_in (Err refusal) = 0
 
-module _ (bus : Bus) (array security : List ℕ) (word : ℕ) (typed : OfItsType bus) (passes : first_of (step_checks bus array security word) ≡ Passed) (sends : kind_of word ≡ 3) where
+module _ (bus : Bus) (array security : List ℕ) (word : ℕ) (typed : OfItsType bus) (passes : first_of (step_checks bus array security word) ≡ Ok tt) (sends : kind_of word ≡ 3) where
   entry : Entered bus array security
   entry = let none = none_holds (step_checks bus array security word) passes in entered bus array security (rw (none.0, none.1.0))
 
@@ -174,12 +173,12 @@ module _ (bus : Bus) (array security : List ℕ) (word : ℕ) (typed : OfItsType
   abbrev said : Said
   said = gathered (ToAll (Sent bus.started (value_of word))) bus.count bus.chips bus.values array security
 
-  replies : (step bus array security word).0.answer ≡ answer.Done (reply_of 0 said)
+  replies : (step bus array security word).0.answer ≡ Ok (reply_of 0 said)
   replies =
       step_answers_for_all bus array security word typed passes
-      ∙ ap (λ (o : Addressed). answer.Done (line_reply (event_of o) (gathered o bus.count bus.chips bus.values array security))) asks
+      ∙ ap (λ (o : Addressed). Ok (line_reply (event_of o) (gathered o bus.count bus.chips bus.values array security))) asks
 
-  pub step_occupied_exactly_when : ((step bus array security word).0.answer ≡ answer.Done 2) ↔ CallsABusyChip bus.count bus.started bus.chips (value_of word)
+  pub step_occupied_exactly_when : ((step bus array security word).0.answer ≡ Ok 2) ↔ CallsABusyChip bus.count bus.started bus.chips (value_of word)
   step_occupied_exactly_when =
       let line = occupied_exactly_when bus.count bus.started bus.chips entry.formed (value_of word) bus.values array security in
-      (λ is. line.0 (ap reply_in (sym replies ∙ is)), λ called. replies ∙ ap answer.Done (line.1 called))
+      (λ is. line.0 (ap reply_in (sym replies ∙ is)), λ called. replies ∙ ap Ok (line.1 called))

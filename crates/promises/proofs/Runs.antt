@@ -11,10 +11,11 @@ use lib.Seq.{length-take-le, take-suc, take-length, drop-cons, set_at, append_sn
 use borrow.Author.Tests.{le-ltb, ltb-false}
 use Rattle.base.specs.Fold.{up_to}
 use Rattle.base.proofs.Fold.{up_keeps, up_keeps_below}
-use Rattle.refusal.specs.declared.Verdict.{Verdict}
-use Rattle.refusal.specs.declared.Verdict.TheVariants.{Passed, Refused}
+use Rattle.refusal.specs.Verdict.{Verdict}
+use Rattle.std.specs.Prelude.{Ok, Err}
 use Rattle.refusal.specs.declared.Refusal.TheVariants.{ShortBuffer}
-use Rattle.refusal.specs.Checks.{first_of, is_passed}
+use Rattle.refusal.specs.Checks.{first_of}
+use Rattle.std.specs.Result.{is_ok}
 use Rattle.bus.specs.declared.Bus.{Bus}
 use Rattle.bus.specs.Step.{entry_checks, event, step_given, step}
 use Rattle.bus.specs.Run.{run_checks, Progress, noted, run_event, run_up_to, run_by, run}
@@ -28,18 +29,18 @@ abbrev step_at : List ℕ → ℕ → Progress → Progress
 step_at events i progress = noted i progress.3 (step progress.0 progress.1 progress.2 (get_or events i 0))
 
 -- where the checks at entry pass, only those of the event are left
-pub step_is_event : (bus : Bus) (array security : List ℕ) (word : ℕ) → first_of (entry_checks bus array security) ≡ Passed
+pub step_is_event : (bus : Bus) (array security : List ℕ) (word : ℕ) → first_of (entry_checks bus array security) ≡ Ok tt
     → step bus array security word ≡ event bus array security word
 unfolding step
 step_is_event bus array security word passed = ap (λ (verdict : Verdict). step_given verdict bus array security word) passed
 
 -- so a step keeps what an event keeps
-pub step_keeps : (bus : Bus) (array security : List ℕ) (word : ℕ) → OfItsType bus → first_of (entry_checks bus array security) ≡ Passed → Kept bus (step bus array security word)
+pub step_keeps : (bus : Bus) (array security : List ℕ) (word : ℕ) → OfItsType bus → first_of (entry_checks bus array security) ≡ Ok tt → Kept bus (step bus array security word)
 step_keeps bus array security word typed passed = rw (step_is_event bus array security word passed) (event_keeps bus array security word typed passed)
 
 -- the bus and both stores pass the checks at entry, and the bus is of its type
 abbrev Sound : Progress → Type 0
-Sound progress = (first_of (entry_checks progress.0 progress.1 progress.2) ≡ Passed) × OfItsType progress.0
+Sound progress = (first_of (entry_checks progress.0 progress.1 progress.2) ≡ Ok tt) × OfItsType progress.0
 
 sound_kept : (events : List ℕ) (i : ℕ) (progress : Progress) → Sound progress → Sound (run_event events i progress)
 sound_kept events i progress (passed, typed) =
@@ -67,30 +68,30 @@ module _ (bus : Bus) (array security events answers : List ℕ) where
 
   -- a run that passes has passed the checks at entry, has room for the answers, and has played each event
   pub record PassedRun : Type 0 where
-    pub enters : first_of (entry_checks bus array security) ≡ Passed
+    pub enters : first_of (entry_checks bus array security) ≡ Ok tt
     pub room : length events ≤ length answers
-    pub plays : ran ≡ (Passed, up_to (run_event events) (length events) start)
+    pub plays : ran ≡ ((Ok tt), up_to (run_event events) (length events) start)
 
-  pub passed_run : (run bus array security events answers).0 ≡ Passed → PassedRun
+  pub passed_run : (run bus array security events answers).0 ≡ Ok tt → PassedRun
   unfolding run run_up_to
   passed_run is =
       let (enters, room) = entry (ltb (length answers) (length events)) refl (first (first_of (run_checks bus array security events answers)) is) in
       record { enters = enters; room = room; plays = go (first_of (run_checks bus array security events answers)) is }
     where
-      entry : (short : Bool) → ltb (length answers) (length events) ≡ short → cond short (Refused ShortBuffer) (first_of (entry_checks bus array security)) ≡ Passed
-          → (first_of (entry_checks bus array security) ≡ Passed) × (length events ≤ length answers)
-      entry true said passed = absurd (false≢true (ap is_passed passed))
+      entry : (short : Bool) → ltb (length answers) (length events) ≡ short → cond short (Err ShortBuffer) (first_of (entry_checks bus array security)) ≡ Ok tt
+          → (first_of (entry_checks bus array security) ≡ Ok tt) × (length events ≤ length answers)
+      entry true said passed = absurd (false≢true (ap is_ok passed))
       entry false said passed = (passed, ltb-false _ _ said)
 
-      first : (verdict : Verdict) → (run_by verdict events start).0 ≡ Passed → verdict ≡ Passed
-      first Passed passed = refl
-      first (Refused refusal) passed = absurd (false≢true (ap is_passed passed))
+      first : (verdict : Verdict) → (run_by verdict events start).0 ≡ Ok tt → verdict ≡ Ok tt
+      first (Ok tt) passed = refl
+      first (Err refusal) passed = absurd (false≢true (ap is_ok passed))
 
-      go : (verdict : Verdict) → (run_by verdict events start).0 ≡ Passed → run_by verdict events start ≡ (Passed, up_to (run_event events) (length events) start)
-      go Passed passed = refl
-      go (Refused refusal) passed = absurd (false≢true (ap is_passed passed))
+      go : (verdict : Verdict) → (run_by verdict events start).0 ≡ Ok tt → run_by verdict events start ≡ ((Ok tt), up_to (run_event events) (length events) start)
+      go (Ok tt) passed = refl
+      go (Err refusal) passed = absurd (false≢true (ap is_ok passed))
 
-  pub run_passes : first_of (entry_checks bus array security) ≡ Passed → length events ≤ length answers → (run bus array security events answers).0 ≡ Passed
+  pub run_passes : first_of (entry_checks bus array security) ≡ Ok tt → length events ≤ length answers → (run bus array security events answers).0 ≡ Ok tt
   unfolding run
   run_passes enters room = rw (le-ltb (length answers) (length events) room, enters)
 
@@ -116,16 +117,16 @@ module _ (bus : Bus) (array security events answers : List ℕ) where
       )
 
   -- its state and stores are where its steps lead to, each with all its checks, its answers are theirs, and the rest of the buffer stays
-  pub run_is_its_steps : OfItsType bus → (run bus array security events answers).0 ≡ Passed
+  pub run_is_its_steps : OfItsType bus → (run bus array security events answers).0 ≡ Ok tt
       → let ends = after step (bus, array, security) events in
       run bus array security events answers
-      ≡ (Passed, (ends.0, ends.1, ends.2, answers_to step (bus, array, security) events ++ drop (length events) answers))
+      ≡ ((Ok tt), (ends.0, ends.1, ends.2, answers_to step (bus, array, security) events ++ drop (length events) answers))
   run_is_its_steps typed is =
       let passed = passed_run is in
       passed.plays
-      ∙ ap (λ (progress : Progress). (Passed, progress))
+      ∙ ap (λ (progress : Progress). ((Ok tt), progress))
       (events_are_steps events (length events) start (passed.enters, typed) ∙ steps_play (length events) (omega arith) passed.room)
-      ∙ ap (λ (played : List ℕ). (Passed, progress_after played (drop (length events) answers))) (take-length events)
+      ∙ ap (λ (played : List ℕ). ((Ok tt), progress_after played (drop (length events) answers))) (take-length events)
 
   -- refused or not
   run_keeps : (P : Progress → Type 0) → ((i : ℕ) (progress : Progress) → i < length events → P progress → P (run_event events i progress)) → P start → P ran.1
@@ -133,8 +134,8 @@ module _ (bus : Bus) (array security events answers : List ℕ) where
   run_keeps P each first = go (first_of (run_checks bus array security events answers))
     where
       go : (verdict : Verdict) → P (run_by verdict events start).1
-      go Passed = up_keeps_below (run_event events) P (length events) each start first
-      go (Refused refusal) = first
+      go (Ok tt) = up_keeps_below (run_event events) P (length events) each start first
+      go (Err refusal) = first
 
   pub answers_past_the_list_stay : (i d : ℕ) → length events ≤ i → get_or (run bus array security events answers).1.3 i d ≡ get_or answers i d
   answers_past_the_list_stay i d past =
@@ -146,7 +147,7 @@ module _ (bus : Bus) (array security events answers : List ℕ) where
   answers_keep_their_length =
       run_keeps (λ (progress : Progress). length progress.3 ≡ length answers) (λ k progress below same. length-set progress.3 k _ ∙ same) refl
 
-  pub run_keeps_the_bus_well_formed : OfItsType bus → (run bus array security events answers).0 ≡ Passed
-      → let progress = (run bus array security events answers).1 in (first_of (entry_checks progress.0 progress.1 progress.2) ≡ Passed) × OfItsType progress.0
+  pub run_keeps_the_bus_well_formed : OfItsType bus → (run bus array security events answers).0 ≡ Ok tt
+      → let progress = (run bus array security events answers).1 in (first_of (entry_checks progress.0 progress.1 progress.2) ≡ Ok tt) × OfItsType progress.0
   run_keeps_the_bus_well_formed typed is =
       run_keeps Sound (λ i progress below. sound_kept events i progress) ((passed_run is).enters, typed)

@@ -17,9 +17,10 @@ use Rattle.chip.specs.declared.Chip.{Chip}
 use Rattle.chip.specs.Chip as chip
 use Rattle.wellformed.specs.Wellformed as alone
 use Rattle.promises.proofs.Keeping.Wellformed.{fresh_is_well_formed}
-use Rattle.refusal.specs.declared.Verdict.{Verdict}
-use Rattle.refusal.specs.declared.Verdict.TheVariants.{Passed, Refused}
-use Rattle.refusal.specs.Checks.{first_of, is_passed}
+use Rattle.refusal.specs.Verdict.{Verdict}
+use Rattle.std.specs.Prelude.{Ok, Err}
+use Rattle.refusal.specs.Checks.{first_of}
+use Rattle.std.specs.Result.{is_ok}
 use Rattle.refusal.proofs.Checks.{NoneHolds}
 use Rattle.board.specs.declared.Place.{Place}
 use Rattle.board.specs.Place.{place_at, placed}
@@ -56,7 +57,7 @@ abbrev fresh_at : List Place → ℕ → Chip
 fresh_at board i = chip.fresh (place_at board i).part (place_at board i).strap
 
 -- a set-up that passes
-module _ (count : ℕ) (board : List Place) (array security : List ℕ) (passed : first_of (set_up_checks count board array security) ≡ Passed) where
+module _ (count : ℕ) (board : List Place) (array security : List ℕ) (passed : first_of (set_up_checks count board array security) ≡ Ok tt) where
   abbrev line : List Chip
   line = fresh_chips board (placed count)
 
@@ -91,15 +92,15 @@ module _ (count : ℕ) (board : List Place) (array security : List ℕ) (passed 
       let starts = starts_same count (places_of line) board place_same in
       (of_formed count false line fresh_formed, array_fits ∙ sym (starts (λ g. g.array)), security_fits ∙ sym (starts (λ g. g.security)))
 
-pub set_up_is_well_formed : (count : ℕ) (places : List Place) (array security : List ℕ) → (set_up count places array security).verdict ≡ Passed
-    → first_of (entry_checks (set_up count places array security).bus array security) ≡ Passed
+pub set_up_is_well_formed : (count : ℕ) (places : List Place) (array security : List ℕ) → (set_up count places array security).verdict ≡ Ok tt
+    → first_of (entry_checks (set_up count places array security).bus array security) ≡ Ok tt
 unfolding set_up
 set_up_is_well_formed count board array security passed = go (first_of (set_up_checks count board array security)) refl passed
   where
-    go : (verdict : Verdict) → first_of (set_up_checks count board array security) ≡ verdict → (set_up_by verdict count board).verdict ≡ Passed
-        → first_of (entry_checks (set_up_by verdict count board).bus array security) ≡ Passed
-    go Passed is now = of_entry (fresh_bus count board) array security (fresh_entry count board array security is)
-    go (Refused refusal) is now = absurd (false≢true (ap is_passed now))
+    go : (verdict : Verdict) → first_of (set_up_checks count board array security) ≡ verdict → (set_up_by verdict count board).verdict ≡ Ok tt
+        → first_of (entry_checks (set_up_by verdict count board).bus array security) ≡ Ok tt
+    go (Ok tt) is now = of_entry (fresh_bus count board) array security (fresh_entry count board array security is)
+    go (Err refusal) is now = absurd (false≢true (ap is_ok now))
 
 pub empty_is_not_well_formed : well_formed empty.count empty.started empty.chips ≡ false
 unfolding well_formed board_verdict

@@ -4,9 +4,8 @@ use Prim.Native.Nat.{ℕ, ◌<◌, ◌≤◌}
 use native.Mathlib.Omega.{arith}
 use mathlib.Core.List.{List}
 use mathlib.Core.Path.{◌≡◌, ◌∙◌, ap}
-use Rattle.refusal.specs.declared.Verdict.{Verdict}
-use Rattle.refusal.specs.declared.Verdict.TheVariants.{Passed}
-use Rattle.refusal.specs.declared.Answer.TheVariants as answer
+use Rattle.refusal.specs.Verdict.{Verdict}
+use Rattle.std.specs.Prelude.{Ok}
 use Rattle.refusal.specs.Checks.{first_of}
 use Rattle.decode.specs.declared.Addressed.{Addressed}
 use Rattle.decode.specs.Decode.{addressed_of, event_of}
@@ -21,7 +20,7 @@ use Rattle.promises.specs.Own.{own, gathered}
 use Rattle.promises.proofs.Chips.{each_chip_takes_its_own, the_rest_stays, answer_is_gathered}
 use Rattle.promises.proofs.Formed.{none_holds}
 
-module _ (bus : Bus) (array security : List ℕ) (word : ℕ) (typed : OfItsType bus) (passes : first_of (step_checks bus array security word) ≡ Passed) where
+module _ (bus : Bus) (array security : List ℕ) (word : ℕ) (typed : OfItsType bus) (passes : first_of (step_checks bus array security word) ≡ Ok tt) where
   abbrev addressed : Addressed
   addressed = addressed_of bus.started word
 
@@ -50,7 +49,7 @@ module _ (bus : Bus) (array security : List ℕ) (word : ℕ) (typed : OfItsType
   step_leaves_the_rest i past =
       rw plays (the_rest_stays addressed bus.count bus.chips bus.values array security (has_four typed) enters.array_fits enters.security_fits i (omega (arith, enters.all_placed)))
 
-  pub step_answers_for_all : after.0.answer ≡ answer.Done (line_reply (event_of addressed) (gathered addressed bus.count bus.chips bus.values array security))
+  pub step_answers_for_all : after.0.answer ≡ Ok (line_reply (event_of addressed) (gathered addressed bus.count bus.chips bus.values array security))
   unfolding played
   step_answers_for_all =
       rw (plays, answer_is_gathered addressed bus.count bus.chips bus.values array security (has_four typed) enters.array_fits enters.security_fits)

@@ -11,8 +11,8 @@ use Rattle.base.specs.Fold.{up_to}
 use Rattle.base.proofs.Fold.{up_same, up_end, up_keeps_below}
 use Rattle.parts.specs.Part.{geometry_of}
 use Rattle.chip.specs.Chip as chip
-use Rattle.refusal.specs.declared.Verdict.{Verdict}
-use Rattle.refusal.specs.declared.Verdict.TheVariants.{Passed}
+use Rattle.refusal.specs.Verdict.{Verdict}
+use Rattle.std.specs.Prelude.{Ok}
 use Rattle.refusal.specs.Checks.{first_of}
 use Rattle.board.specs.declared.Place.{Place}
 use Rattle.board.specs.Place.{nowhere}
@@ -67,11 +67,11 @@ events = 0x0600 ∷ 0x0500 ∷ []
 abbrev answers : List ℕ
 answers = 0 ∷ 0 ∷ []
 
-enters : first_of (entry_checks bus array security) ≡ Passed
+enters : first_of (entry_checks bus array security) ≡ Ok tt
 unfolding set_up up_to geometry_of
 enters = set_up_is_well_formed 1 board array security refl
 
-passes : (run bus array security events answers).0 ≡ Passed
+passes : (run bus array security events answers).0 ≡ Ok tt
 passes = run_passes bus array security events answers enters (omega arith)
 
 abbrev wp_of : Progress → Bool

@@ -1,7 +1,7 @@
 -- A version to be shut out: one that plays the whole list at its first event and only echoes after (paper, "How tight the contracts are").
 -- Beside it ours, and what tells them apart: where they are after each event, since at the list's end they are in the same place.
 use Rattle.std.specs.Prelude.{ℕ, zero, suc, ◌≤◌, List, ◌++◌, ◌≡◌, length, take, drop}
-use Rattle.refusal.specs.declared.Verdict.TheVariants.{Passed}
+use Rattle.std.specs.Prelude.{Ok}
 use Rattle.bus.specs.declared.Bus.{Bus}
 use Rattle.bus.specs.Run.{Progress, run_up_to, run}
 
@@ -24,5 +24,5 @@ our_version = run_up_to
 
 -- where a run passes, each event has led to what a run of the events so far leaves
 abbrev pub EventByEvent : Version → Type 0
-EventByEvent version = (bus : Bus) (array security events answers : List ℕ) (n : ℕ) → (run bus array security events answers).0 ≡ Passed → n ≤ length events
+EventByEvent version = (bus : Bus) (array security events answers : List ℕ) (n : ℕ) → (run bus array security events answers).0 ≡ Ok tt → n ≤ length events
     → version events n (bus, array, security, answers) ≡ (run bus array security (take n events) answers).1

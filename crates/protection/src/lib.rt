@@ -16,8 +16,7 @@ pub fn is_protected(c: Control) -> bool
     ensures { result ≡ is_protected c }
 {
     if bit_of(c.config0, EWPM) {
-        let zone = zone_of(c.part, c.arraycounter);
-        bit_of(c.config1, zone)
+        bit_of(c.config1, zone_of(c.part, c.arraycounter))
     } else {
         c.wp
     }

@@ -1,5 +1,4 @@
-// The reader carries the transcript it was lent and its place in it (paper, "The transcript"). Its functions take the reader
-// apart, and leave the work to functions of a slice and a number.
+// The reader carries the transcript it was lent and its place in it (paper, "The transcript").
 #![tactic(auto)]
 
 ghost use Rattle.std.specs.Prelude.{◌≡◌};
@@ -8,7 +7,7 @@ ghost use Rattle.reader.specs.Reader.{from_start, Answered};
 
 use transcript::frame::{Frame, frame_at};
 
-#[derive(Clone, Copy)]
+#[derive(Clone, Copy, Debug, PartialEq, Eq)]
 pub struct Reader<'a> {
     pub text: &'a [u8],
     pub at: usize,
@@ -20,20 +19,19 @@ fn place_after(frame: Frame, at: usize) -> usize
 {
     match frame {
         Frame::Event(_, next) => next,
-        Frame::Malformed => at,
-        Frame::End => at,
+        Frame::Malformed | Frame::End => at,
     }
 }
 
 impl<'a> Reader<'a> {
-    pub fn new(text: &'a [u8]) -> Reader<'a>
+    pub fn new(text: &'a [u8]) -> Self
         ensures { result ≡ from_start text.entry }
     {
-        Reader { text, at: 0 }
+        Self { text, at: 0 }
     }
 
     // Answers, and moves on where it stands: past an event's line; 9 and the end leave the place.
-    pub fn next<'s>(&'s mut self) -> Frame
+    pub fn next(&mut self) -> Frame
         ensures { Answered self.old result self.new }
     {
         let frame = frame_at(self.text, self.at);

@@ -11,10 +11,11 @@ use borrow.Author.Tests.{eqb-true, eq-eqb}
 use Rattle.base.proofs.logic.Laws.{and_left, and_right}
 use Rattle.refusal.specs.declared.Refusal.{Refusal}
 use Rattle.refusal.specs.declared.Refusal.TheVariants.{WrongCount, UnknownPart, StrapOutside, SharedAddress, WrongLength, UnknownKind, WrongValue, Clash, NotWellFormed, ShortBuffer, ShortText, BadRecord, WrongSum, UnknownType, PastArray, NoEnd, NotBusy}
-use Rattle.refusal.specs.declared.Verdict.{Verdict}
-use Rattle.refusal.specs.declared.Verdict.TheVariants.{Passed, Refused}
+use Rattle.refusal.specs.Verdict.{Verdict}
+use Rattle.std.specs.Prelude.{Ok, Err}
 use Rattle.refusal.specs.Refusal.{number_of, status_of}
-use Rattle.refusal.specs.Checks.{first_of, is_passed}
+use Rattle.refusal.specs.Checks.{first_of}
+use Rattle.std.specs.Result.{is_ok}
 
 abbrev pub Checks : Type 0
 Checks = List (Bool × Refusal)
@@ -59,9 +60,9 @@ number_some NoEnd = omega arith
 number_some NotBusy = omega arith
 
 -- so a verdict whose status is 00 has passed
-pub status_passed : (verdict : Verdict) → status_of verdict ≡ 0 → verdict ≡ Passed
-status_passed Passed is = refl
-status_passed (Refused refusal) is = absurd (omega (arith, number_some refusal, is))
+pub status_passed : (verdict : Verdict) → status_of verdict ≡ 0 → verdict ≡ Ok tt
+status_passed (Ok tt) is = refl
+status_passed (Err refusal) is = absurd (omega (arith, number_some refusal, is))
 
 not_equal : (a b : ℕ) → not (eqb a b) ≡ true → a ≡ b → ⊥
 not_equal a b differ same = false≢true (rw (eq-eqb a b same) at differ)
@@ -70,34 +71,34 @@ never_given : (n : ℕ) (checks : Checks) → 0 < n → unlike n checks ≡ true
 never_given n [] some other is = absurd (omega arith)
 never_given n (check ∷ checks) some other is = go check.0 refl (never_given n checks some (and_right (not (eqb n (number_of check.1))) _ other)) is
   where
-    go : (fails : Bool) → check.0 ≡ fails → (status_of (first_of checks) ≡ n → ⊥) → status_of (cond fails (Refused check.1) (first_of checks)) ≡ n → ⊥
+    go : (fails : Bool) → check.0 ≡ fails → (status_of (first_of checks) ≡ n → ⊥) → status_of (cond fails (Err check.1) (first_of checks)) ≡ n → ⊥
     go true now later given = not_equal n (number_of check.1) (and_left _ _ other) (sym given)
     go false now later given = later given
 
 -- one check more in front
 module _ (n : ℕ) (fails : Bool) (refusal : Refusal) (checks : Checks) where
   abbrev here : ℕ
-  here = status_of (cond fails (Refused refusal) (first_of checks))
+  here = status_of (cond fails (Err refusal) (first_of checks))
 
   mine : n ≡ number_of refusal → (status_of (first_of checks) ≡ n → ⊥) → (here ≡ n) ↔ (fails ≡ true)
   mine is others = (to fails, from fails)
     where
-      to : (b : Bool) → status_of (cond b (Refused refusal) (first_of checks)) ≡ n → b ≡ true
+      to : (b : Bool) → status_of (cond b (Err refusal) (first_of checks)) ≡ n → b ≡ true
       to true given = refl
       to false given = absurd (others given)
 
-      from : (b : Bool) → b ≡ true → status_of (cond b (Refused refusal) (first_of checks)) ≡ n
+      from : (b : Bool) → b ≡ true → status_of (cond b (Err refusal) (first_of checks)) ≡ n
       from true holds = sym is
       from false holds = absurd (false≢true holds)
 
   other : (P : Type 0) → (n ≡ number_of refusal → ⊥) → (status_of (first_of checks) ≡ n) ↔ P → (here ≡ n) ↔ ((fails ≡ false) × P)
   other P differ later = (to fails, from fails)
     where
-      to : (b : Bool) → status_of (cond b (Refused refusal) (first_of checks)) ≡ n → (b ≡ false) × P
+      to : (b : Bool) → status_of (cond b (Err refusal) (first_of checks)) ≡ n → (b ≡ false) × P
       to true given = absurd (differ (sym given))
       to false given = (refl, later.0 given)
 
-      from : (b : Bool) → (b ≡ false) × P → status_of (cond b (Refused refusal) (first_of checks)) ≡ n
+      from : (b : Bool) → (b ≡ false) × P → status_of (cond b (Err refusal) (first_of checks)) ≡ n
       from true holds = absurd (true≢false holds.0)
       from false holds = later.1 holds.1
 
@@ -121,27 +122,27 @@ passed_exactly_when (check ∷ checks) =
     other 0 check.0 check.1 checks (NoneHolds checks) (λ same. absurd (omega (arith, number_some check.1))) (passed_exactly_when checks)
 
 -- checks one after the other
-pub refused_first : (checks later : Checks) (refusal : Refusal) → first_of checks ≡ Refused refusal → first_of (checks ++ later) ≡ Refused refusal
-refused_first [] later refusal is = absurd (false≢true (ap is_passed (sym is)))
+pub refused_first : (checks later : Checks) (refusal : Refusal) → first_of checks ≡ Err refusal → first_of (checks ++ later) ≡ Err refusal
+refused_first [] later refusal is = absurd (false≢true (ap is_ok (sym is)))
 refused_first (check ∷ checks) later refusal is = go check.0 (refused_first checks later refusal) is
   where
-    go : (fails : Bool) → (first_of checks ≡ Refused refusal → first_of (checks ++ later) ≡ Refused refusal)
-        → cond fails (Refused check.1) (first_of checks) ≡ Refused refusal → cond fails (Refused check.1) (first_of (checks ++ later)) ≡ Refused refusal
+    go : (fails : Bool) → (first_of checks ≡ Err refusal → first_of (checks ++ later) ≡ Err refusal)
+        → cond fails (Err check.1) (first_of checks) ≡ Err refusal → cond fails (Err check.1) (first_of (checks ++ later)) ≡ Err refusal
     go true rest now = now
     go false rest now = rest now
 
-pub passed_first : (checks later : Checks) → first_of checks ≡ Passed → first_of (checks ++ later) ≡ first_of later
+pub passed_first : (checks later : Checks) → first_of checks ≡ Ok tt → first_of (checks ++ later) ≡ first_of later
 passed_first [] later is = refl
 passed_first (check ∷ checks) later is = go check.0 (passed_first checks later) is
   where
-    go : (fails : Bool) → (first_of checks ≡ Passed → first_of (checks ++ later) ≡ first_of later)
-        → cond fails (Refused check.1) (first_of checks) ≡ Passed → cond fails (Refused check.1) (first_of (checks ++ later)) ≡ first_of later
-    go true rest now = absurd (false≢true (ap is_passed now))
+    go : (fails : Bool) → (first_of checks ≡ Ok tt → first_of (checks ++ later) ≡ first_of later)
+        → cond fails (Err check.1) (first_of checks) ≡ Ok tt → cond fails (Err check.1) (first_of (checks ++ later)) ≡ first_of later
+    go true rest now = absurd (false≢true (ap is_ok now))
     go false rest now = rest now
 
-pub passed_before : (checks later : Checks) → first_of (checks ++ later) ≡ Passed → first_of checks ≡ Passed
+pub passed_before : (checks later : Checks) → first_of (checks ++ later) ≡ Ok tt → first_of checks ≡ Ok tt
 passed_before checks later is = go (first_of checks) refl
   where
-    go : (verdict : Verdict) → first_of checks ≡ verdict → verdict ≡ Passed
-    go Passed now = refl
-    go (Refused refusal) now = absurd (false≢true (ap is_passed (sym (refused_first checks later refusal now) ∙ is)))
+    go : (verdict : Verdict) → first_of checks ≡ verdict → verdict ≡ Ok tt
+    go (Ok tt) now = refl
+    go (Err refusal) now = absurd (false≢true (ap is_ok (sym (refused_first checks later refusal now) ∙ is)))

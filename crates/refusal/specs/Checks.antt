@@ -1,14 +1,9 @@
 -- Checks in an operation's order: the first that does not pass refuses.
-use Rattle.std.specs.Prelude.{Bool, true, false, cond, List, [], ◌∷◌}
+use Rattle.std.specs.Prelude.{Bool, cond, List, [], ◌∷◌, Ok, Err}
 use Rattle.refusal.specs.declared.Refusal.{Refusal}
-use Rattle.refusal.specs.declared.Verdict.{Verdict}
-use Rattle.refusal.specs.declared.Verdict.TheVariants.{Passed, Refused}
+use Rattle.refusal.specs.Verdict.{Verdict}
 
 -- each check is its condition of the paper's table, which holds where it refuses, and the refusal
 abbrev pub first_of : List (Bool × Refusal) → Verdict
-first_of [] = Passed
-first_of (check ∷ checks) = cond check.0 (Refused check.1) (first_of checks)
-
-abbrev pub is_passed : Verdict → Bool
-is_passed Passed = true
-is_passed (Refused refusal) = false
+first_of [] = Ok tt
+first_of (check ∷ checks) = cond check.0 (Err check.1) (first_of checks)

@@ -1,13 +1,10 @@
 -- The paper's number for each refusal, and its words for what set-up, step and run answer (paper, "Events and replies"; 19 to 24: request
 -- E1; 12: request E2). Number 9, a malformed line, is the transcript's.
-use Rattle.std.specs.Prelude.{ℕ}
+use Rattle.std.specs.Prelude.{ℕ, Ok, Err}
 use Rattle.base.specs.Word.{word_of}
 use Rattle.refusal.specs.declared.Refusal.{Refusal}
 use Rattle.refusal.specs.declared.Refusal.TheVariants.{WrongCount, UnknownPart, StrapOutside, SharedAddress, WrongLength, UnknownKind, WrongValue, Clash, NotWellFormed, ShortBuffer, ShortText, BadRecord, WrongSum, UnknownType, PastArray, NoEnd, NotBusy}
-use Rattle.refusal.specs.declared.Verdict.{Verdict}
-use Rattle.refusal.specs.declared.Verdict.TheVariants.{Passed, Refused}
-use Rattle.refusal.specs.declared.Answer.{Answer}
-use Rattle.refusal.specs.declared.Answer.TheVariants as answer
+use Rattle.refusal.specs.Verdict.{Verdict, Answer}
 
 abbrev pub number_of : Refusal → ℕ
 number_of WrongCount = 1
@@ -30,15 +27,15 @@ number_of NotBusy = 12
 
 -- what checks say, as a status: 00 is done
 abbrev pub status_of : Verdict → ℕ
-status_of Passed = 0
-status_of (Refused refusal) = number_of refusal
+status_of (Ok done) = 0
+status_of (Err refusal) = number_of refusal
 
 -- and of an answer
 abbrev pub status_in : Answer → ℕ
-status_in (answer.Done reply) = 0
-status_in (answer.Refused refusal) = number_of refusal
+status_in (Ok reply) = 0
+status_in (Err refusal) = number_of refusal
 
 -- an answer is status times 256 plus reply; a refused event has reply 00
 abbrev pub answer_word : Answer → ℕ
-answer_word (answer.Done reply) = word_of 0 reply
-answer_word (answer.Refused refusal) = word_of (number_of refusal) 0
+answer_word (Ok reply) = word_of 0 reply
+answer_word (Err refusal) = word_of (number_of refusal) 0

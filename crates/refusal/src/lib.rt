@@ -3,10 +3,9 @@
 
 ghost use Rattle.std.specs.Prelude.{◌≡◌};
 ghost use Rattle.refusal.specs.Refusal.{number_of, status_of, answer_word};
-ghost use Rattle.refusal.specs.Checks.{is_passed};
 
 // In the order of the paper's table, then of the requests. Number 9, a malformed line, is the transcript's.
-#[derive(Clone, Copy)]
+#[derive(Clone, Copy, Debug, PartialEq, Eq)]
 pub enum Refusal {
     // No chips, or more than four.
     WrongCount,
@@ -40,69 +39,50 @@ pub enum Refusal {
     NotBusy,
 }
 
-// What an operation's checks say.
-#[derive(Clone, Copy)]
-pub enum Verdict {
-    Passed,
-    Refused(Refusal),
-}
+impl From<Refusal> for u8 {
+    ghost from_gives = { λ refusal n. n ≡ number_of refusal };
 
-// The answer to one event: its reply, or why it was refused.
-#[derive(Clone, Copy)]
-pub enum Answer {
-    Done(u8),
-    Refused(Refusal),
-}
-
-pub fn number_of(refusal: Refusal) -> u8
-    ensures { result ≡ number_of refusal }
-{
-    match refusal {
-        Refusal::WrongCount => 1,
-        Refusal::UnknownPart => 2,
-        Refusal::StrapOutside => 3,
-        Refusal::SharedAddress => 4,
-        Refusal::WrongLength => 5,
-        Refusal::UnknownKind => 6,
-        Refusal::WrongValue => 7,
-        Refusal::Clash => 8,
-        Refusal::NotWellFormed => 10,
-        Refusal::ShortBuffer => 11,
-        Refusal::ShortText => 19,
-        Refusal::BadRecord => 20,
-        Refusal::WrongSum => 21,
-        Refusal::UnknownType => 22,
-        Refusal::PastArray => 23,
-        Refusal::NoEnd => 24,
-        Refusal::NotBusy => 12,
+    fn from(refusal: Refusal) -> u8
+        ensures { result ≡ number_of refusal }
+    {
+        match refusal {
+            Refusal::WrongCount => 1,
+            Refusal::UnknownPart => 2,
+            Refusal::StrapOutside => 3,
+            Refusal::SharedAddress => 4,
+            Refusal::WrongLength => 5,
+            Refusal::UnknownKind => 6,
+            Refusal::WrongValue => 7,
+            Refusal::Clash => 8,
+            Refusal::NotWellFormed => 10,
+            Refusal::ShortBuffer => 11,
+            Refusal::ShortText => 19,
+            Refusal::BadRecord => 20,
+            Refusal::WrongSum => 21,
+            Refusal::UnknownType => 22,
+            Refusal::PastArray => 23,
+            Refusal::NoEnd => 24,
+            Refusal::NotBusy => 12,
+        }
     }
 }
 
-// Status 00 is done.
-pub fn status_of(verdict: Verdict) -> u8
+// What checks say, as a status: 00 is done.
+pub fn status_of(verdict: Result<(), Refusal>) -> u8
     ensures { result ≡ status_of verdict }
 {
     match verdict {
-        Verdict::Passed => 0,
-        Verdict::Refused(refusal) => number_of(refusal),
+        Ok(()) => 0,
+        Err(refusal) => refusal.into(),
     }
 }
 
-pub fn is_passed(verdict: Verdict) -> bool
-    ensures { result ≡ is_passed verdict }
-{
-    match verdict {
-        Verdict::Passed => true,
-        Verdict::Refused(_) => false,
-    }
-}
-
-// Status times 256 plus reply.
-pub fn answer_word(answer: Answer) -> u16
+// The answer to one event, its reply or why it was refused: status times 256 plus reply.
+pub fn answer_word(answer: Result<u8, Refusal>) -> u16
     ensures { result ≡ answer_word answer }
 {
     match answer {
-        Answer::Done(reply) => base::word::word_of(0, reply),
-        Answer::Refused(refusal) => base::word::word_of(number_of(refusal), 0),
+        Ok(reply) => base::word::word_of(0, reply),
+        Err(refusal) => base::word::word_of(refusal.into(), 0),
     }
 }

@@ -2,13 +2,15 @@
 ghost use Rattle.std.specs.Prelude.{◌≡◌};
 ghost use Rattle.regions.specs.Counter.{word_address, counter_in};
 
+use base::word::word_of;
+
 // What the bit A16 is worth.
 const A16: u32 = 65_536;
 
 fn word_address(a16: bool, high: u8, low: u8) -> u32
     ensures { result ≡ word_address a16 high low }
 {
-    let word = base::word::word_of(high, low) as u32;
+    let word = u32::from(word_of(high, low));
     if a16 { A16 + word } else { word }
 }
 

@@ -22,11 +22,10 @@ pub fn place_of(part: u8, at: u32) -> u32
 pub fn next_in(size: u32, at: u32) -> u32
     ensures { result ≡ next_in size at }
 {
-    if size <= at {
-        return 0;
+    match at.checked_add(1) {
+        Some(next) if next < size => next,
+        _ => 0,
     }
-    let next = at + 1;
-    if next < size { next } else { 0 }
 }
 
 // The next address of a load: it goes round the page.
@@ -43,5 +42,5 @@ pub fn in_id_page(part: u8, at: u32) -> bool
     ensures { result ≡ in_id_page (geometry_of part) at }
 {
     let g = geometry_of(part);
-    base::logic::and(g.readonly <= at, at < g.readonly + g.idpage)
+    (g.readonly..g.readonly + g.idpage).contains(&at)
 }

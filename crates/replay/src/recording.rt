@@ -1,14 +1,11 @@
 // A recording: the file NAME has a transcript, NAME.answers what the bench must answer.
-ghost use Rattle.std.specs.Prelude.{◌+◌, ◌≤◌, ◌≡◌, length};
-
-use base::number::least;
-use bus::Bus;
+use bus::{Bus, SetUp};
 use conversation::answer_all;
+use conversation::tape::text_on;
 use factory::{erased_arrays, erased_registers, mark_serials};
-use files::read_whole;
+use files::{read_whole, with_ending};
 use placing::layout::Board;
 use print::{PRINTED_BYTES, closing};
-use refusal::{Verdict, number_of};
 use std::io::Print;
 
 // A transcript, and the answers to it, have fewer bytes than these.
@@ -19,53 +16,16 @@ const ANSWERS: usize = 32_768;
 // A name with its ending has at most so many bytes.
 const PATH: usize = 128;
 
-const ENDING: usize = 8;
-
 // How much of a buffer a file fills, where it is there and does not fill all of it.
-#[derive(Clone, Copy)]
-struct Content {
-    known: bool,
-    size: usize,
+fn read_file(rt: &HostRuntime, path: &[u8], into: &mut [u8]) -> Option<usize> {
+    let most = into.len();
+    read_whole(rt, path, into).ok().filter(|size| *size < most)
 }
 
-// A file that cannot be read.
-fn unknown() -> Content {
-    Content {
-        known: false,
-        size: 0,
-    }
-}
-
-fn read_file(rt: &HostRuntime, path: &[u8], into: &mut [u8]) -> Content {
-    match read_whole(rt, path, into) {
-        files::Content::Whole(size) => Content {
-            known: size < into.len(),
-            size,
-        },
-        files::Content::TooLong => unknown(),
-        files::Content::Failed(_) => unknown(),
-    }
-}
-
-// The name with its ending, and how many bytes it has.
-fn put_path(name: &[u8], path: &mut [u8]) -> usize
-    requires { length name.now + 8 ≤ length path.old }
-    ensures { result ≡ length name.now + 8 }
-{
-    let n = name.len();
-    let end = n + ENDING;
-    path[0..n].copy_from_slice(name);
-    path[n..end].copy_from_slice(b".answers");
-    end
-}
-
-fn read_answers(rt: &HostRuntime, name: &[u8], into: &mut [u8]) -> Content {
-    if PATH - ENDING < name.len() {
-        return unknown();
-    }
-    let mut path = [0u8; PATH];
-    let end = put_path(name, &mut path);
-    read_file(rt, &path[0..end], into)
+fn read_answers(rt: &HostRuntime, name: &[u8], into: &mut [u8]) -> Option<usize> {
+    let mut room = [0u8; PATH];
+    let path = with_ending(name, b".answers", &mut room)?;
+    read_file(rt, path, into)
 }
 
 // The answers to a transcript on a fresh bus, and how many bytes they have; a board that is refused answers once.
@@ -73,41 +33,25 @@ fn answers_on(
     board: Board,
     array: &mut [u8],
     security: &mut [u8],
-    tape: &[u8],
-    filled: usize,
+    text: &[u8],
     said: &mut [u8],
 ) -> usize {
-    let count = board.count;
-    let places = board.places;
-    mark_serials(count, places, security);
-    let set_up = Bus::set_up(count, places, array, security);
-    let verdict = set_up.verdict;
-    let bus = set_up.bus;
+    mark_serials(board.count, board.places, security);
+    let SetUp { bus, verdict } = Bus::set_up(board.count, board.places, array, security);
     match verdict {
-        Verdict::Refused(refusal) => {
-            let line = closing(number_of(refusal));
+        Ok(()) => answer_all(bus, array, security, text, said).written,
+        Err(refusal) => {
             if PRINTED_BYTES <= said.len() {
-                said[0..PRINTED_BYTES].copy_from_slice(&line);
+                said[..PRINTED_BYTES].copy_from_slice(&closing(u8::from(refusal)));
             }
             PRINTED_BYTES
         }
-        Verdict::Passed => answer_all(bus, array, security, tape, filled, said).written,
     }
 }
 
 // The first place at which two texts differ, or where the shorter ends.
 fn same_until(one: &[u8], other: &[u8]) -> usize {
-    let mut i: usize = 0;
-    while i < one.len() {
-        if other.len() <= i {
-            return i;
-        }
-        if one[i] != other[i] {
-            return i;
-        }
-        i += 1;
-    }
-    i
+    one.iter().zip(other).take_while(|(a, b)| a == b).count()
 }
 
 // The number of the line that a place lies in, the first being 1.
@@ -115,87 +59,61 @@ fn line_number(place: usize) -> u64 {
     (place / PRINTED_BYTES) as u64 + 1
 }
 
-fn say(rt: &HostRuntime, text: &[u8]) {
-    let _ = rt.write_all(text);
-}
-
+// In both test programs: two lines, and no library is for test programs alone.
 fn tell(rt: &HostRuntime, name: &[u8], what: &[u8]) {
-    say(rt, name);
-    say(rt, what);
+    let _ = rt.write_all(name);
+    let _ = rt.write_all(what);
 }
 
 // Whether the answers are those that are recorded; a difference names the file and the line.
 fn compare(rt: &HostRuntime, name: &[u8], said: &[u8], recorded: &[u8]) -> bool {
-    let place = same_until(said, recorded);
-    if place == said.len() {
-        if place == recorded.len() {
-            return true;
-        }
+    if said == recorded {
+        return true;
     }
-    let line = line_number(place);
-    say(rt, name);
+    let line = line_number(same_until(said, recorded));
+    let _ = rt.write_all(name);
     let _ = println!(rt; ".answers: line {line} differs");
     false
 }
 
-// The board in memories of its size.
+// The board in memories of its size. Apart from `answers_of`: beside the arrays themselves, their bounds are not proved (out of stack).
 fn answers_in_part(
     board: Board,
     array: &mut [u8],
     security: &mut [u8],
-    tape: &[u8],
-    filled: usize,
+    text: &[u8],
     said: &mut [u8],
 ) -> usize {
     let array_end = board.array_end(array.len());
     let security_end = board.security_end(security.len());
     answers_on(
         board,
-        &mut array[0..array_end],
-        &mut security[0..security_end],
-        tape,
-        filled,
+        &mut array[..array_end],
+        &mut security[..security_end],
+        text,
         said,
     )
 }
 
-// What was said fills one buffer so far, and what is recorded the other.
-fn compare_parts(
-    rt: &HostRuntime,
-    name: &[u8],
-    said: &[u8],
-    written: usize,
-    recorded: &[u8],
-    size: usize,
-) -> bool {
-    let said_end = least(written, said.len());
-    let recorded_end = least(size, recorded.len());
-    compare(rt, name, &said[0..said_end], &recorded[0..recorded_end])
+// The answers on a board.
+fn answers_of(board: Board, text: &[u8], said: &mut [u8]) -> usize {
+    let mut array = erased_arrays();
+    let mut security = erased_registers();
+    answers_in_part(board, &mut array, &mut security, text, said)
 }
 
 pub fn as_recorded(rt: &HostRuntime, name: &[u8], board: Board) -> bool {
     let mut tape = [0u8; TEXT];
     let mut recorded = [0u8; ANSWERS];
-    let text = read_file(rt, name, &mut tape);
-    let answers = read_answers(rt, name, &mut recorded);
-    if !text.known {
+    let Some(filled) = read_file(rt, name, &mut tape) else {
         tell(rt, name, b": missing, or too long\n");
         return false;
-    }
-    if !answers.known {
+    };
+    let Some(size) = read_answers(rt, name, &mut recorded) else {
         tell(rt, name, b".answers: missing, or too long\n");
         return false;
-    }
-    let mut array = erased_arrays();
-    let mut security = erased_registers();
+    };
     let mut said = [0u8; ANSWERS];
-    let written = answers_in_part(
-        board,
-        &mut array,
-        &mut security,
-        &tape,
-        text.size,
-        &mut said,
-    );
-    compare_parts(rt, name, &said, written, &recorded, answers.size)
+    let written = answers_of(board, text_on(&tape, filled), &mut said);
+    compare(rt, name, text_on(&said, written), text_on(&recorded, size))
 }

@@ -13,30 +13,19 @@ use regions::page::next_in;
 // What the line shows where nothing pulls it low.
 const NO_BYTE: u8 = 0xFF;
 
-const ID_BYTES: usize = 3;
-
 // The place of the last ID byte.
 const LAST_ID: u8 = 2;
 
 fn byte_at(share: &[u8], at: u32) -> u8
     ensures { result ≡ get_or share.now at no_byte }
 {
-    let from = at as usize;
-    if from < share.len() {
-        return share[from];
-    }
-    NO_BYTE
+    share.get(at as usize).copied().unwrap_or(NO_BYTE)
 }
 
 fn id_byte(part: u8, place: u8) -> u8
     ensures { result ≡ id_byte (geometry_of part) place }
 {
-    let id = geometry_of(part).id;
-    let from = place as usize;
-    if from < ID_BYTES {
-        return id[from];
-    }
-    NO_BYTE
+    byte_at(&geometry_of(part).id, u32::from(place))
 }
 
 // After the third ID byte the first follows (request E5; sheets 11.0).
@@ -52,7 +41,8 @@ fn byte_from(source: Source, c: Control, array: &[u8], security: &[u8]) -> u8
     match source {
         Source::FromArray => byte_at(array, c.arraycounter),
         Source::FromSecurity => byte_at(security, c.securitycounter),
-        Source::FromConfiguration(second) => { if second { c.config1 } else { c.config0 } }
+        Source::FromConfiguration(false) => c.config0,
+        Source::FromConfiguration(true) => c.config1,
         Source::FromId(place) => id_byte(c.part, place),
         Source::FromNothing => NO_BYTE,
     }
@@ -66,9 +56,9 @@ fn moved_past(source: Source, c: Control) -> Control
     match source {
         Source::FromArray => c.arraycounter_at(next_in(g.array, c.arraycounter)),
         Source::FromSecurity => c.securitycounter_at(next_in(g.security, c.securitycounter)),
-        Source::FromConfiguration(second) => c.in_phase(Phase::SendsByte(Source::FromConfiguration(
-            !second,
-        ))),
+        Source::FromConfiguration(second) => {
+            c.in_phase(Phase::SendsByte(Source::FromConfiguration(!second)))
+        }
         Source::FromId(place) => c.in_phase(Phase::SendsByte(Source::FromId(next_id_place(place)))),
         Source::FromNothing => c,
     }
@@ -84,12 +74,9 @@ fn after_reply(c: Control, nack: bool) -> Control
 fn send(source: Source, c: Control, array: &[u8], security: &[u8], nack: bool) -> Answered
     ensures { result ≡ send source c array.now security.now nack }
 {
-    let byte = byte_from(source, c, array, security);
-    let moved = moved_past(source, c);
-    let control = after_reply(moved, nack);
     Answered {
-        control,
-        said: Said::Byte(byte),
+        control: after_reply(moved_past(source, c), nack),
+        said: Said::Byte(byte_from(source, c, array, security)),
     }
 }
 
@@ -98,14 +85,9 @@ fn send(source: Source, c: Control, array: &[u8], security: &[u8], nack: bool) -
 pub fn read(c: Control, array: &[u8], security: &[u8], nack: bool) -> Answered
     ensures { result ≡ read c array.now security.now nack }
 {
-    let phase = c.phase;
-    match phase {
-        Phase::Standby => c.stays(),
-        Phase::Busy => c.stays(),
-        Phase::AwaitsAddress => c.stays(),
-        Phase::AwaitsChoice => c.stays(),
-        Phase::AwaitsWord(_) => c.stays(),
-        Phase::TakesData(_) => c.stays(),
-        Phase::SendsByte(source) => send(source, c, array, security, nack),
+    if let Phase::SendsByte(source) = c.phase {
+        send(source, c, array, security, nack)
+    } else {
+        c.stays()
     }
 }

@@ -1,7 +1,7 @@
 -- Every public contract of this crate leaves one outcome: any two that it allows are equal.
 use Rattle.base.proofs.Unique.{Unique, same}
-use Rattle.status.proofs.number_of.Kinds as number_of_kinds
-use Rattle.status.proofs.number_of.Reads as number_of_reads
+use Rattle.status.proofs.U8FromStatus.from.Kinds as number_of_kinds
+use Rattle.status.proofs.U8FromStatus.from.Reads as number_of_reads
 use Rattle.status.proofs.greatest.Kinds as greatest_kinds
 use Rattle.status.proofs.greatest.Reads as greatest_reads
 

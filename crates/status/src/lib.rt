@@ -4,7 +4,8 @@
 ghost use Rattle.std.specs.Prelude.{◌≡◌};
 ghost use Rattle.status.specs.Status.{number_of, greatest};
 
-#[derive(Clone, Copy)]
+// In the order of their numbers.
+#[derive(Clone, Copy, Debug, PartialEq, Eq, PartialOrd, Ord)]
 pub enum Status {
     // All was answered.
     Answered,
@@ -16,22 +17,23 @@ pub enum Status {
     Broken,
 }
 
-pub fn number_of(status: Status) -> u8
-    ensures { result ≡ number_of status }
-{
-    match status {
-        Status::Answered => 0,
-        Status::Refused => 1,
-        Status::NoWord => 2,
-        Status::Broken => 3,
+impl From<Status> for u8 {
+    ghost from_gives = { λ status n. n ≡ number_of status };
+
+    fn from(status: Status) -> u8
+        ensures { result ≡ number_of status }
+    {
+        match status {
+            Status::Answered => 0,
+            Status::Refused => 1,
+            Status::NoWord => 2,
+            Status::Broken => 3,
+        }
     }
 }
 
 pub fn greatest(a: Status, b: Status) -> Status
     ensures { result ≡ greatest a b }
 {
-    if number_of(a) <= number_of(b) {
-        return b;
-    }
-    a
+    a.max(b)
 }

@@ -13,13 +13,12 @@ use std::io::{Error, ErrorKind, Read, Write};
 use std::thread::sleep;
 use std::time::{Clock, Duration};
 
-// What came of one call: so many bytes, at the start of what was lent; nothing yet, to be asked again; the end; or a failure, and why.
-#[derive(Clone, Copy)]
+// What came of one call: so many bytes, at the start of what was lent; nothing yet, to be asked again; or the end.
+#[derive(Clone, Copy, Debug, PartialEq, Eq)]
 pub enum Came {
     Bytes(usize),
     Nothing,
     Ended,
-    Failed(Error),
 }
 
 // How long a pause is.
@@ -31,39 +30,39 @@ fn pause(clock: &impl Clock) {
 }
 
 // What is to be made of a failure. A call that a signal interrupted is asked again at once, one that would wait after a pause.
-fn failed(clock: &impl Clock, error: Error) -> Came
+fn failed(clock: &impl Clock, error: Error) -> io::Result<Came>
     ensures { size_of result ≡ 0 }
 {
     match error.kind() {
         ErrorKind::WouldBlock => {
             pause(clock);
-            Came::Nothing
+            Ok(Came::Nothing)
         }
-        ErrorKind::Interrupted => Came::Nothing,
-        _ => Came::Failed(error),
+        ErrorKind::Interrupted => Ok(Came::Nothing),
+        _ => Err(error),
     }
 }
 
 // What a read or a write of these bytes has answered.
-fn came_of(clock: &impl Clock, answer: io::Result<usize>, lent: &[u8]) -> Came
+fn came_of(clock: &impl Clock, answer: io::Result<usize>, lent: &[u8]) -> io::Result<Came>
     ensures fits { size_of result ≤ length lent.now }
     ensures counted { Counts answer (length lent.now) (size_of result) }
 {
     match answer {
-        Ok(0) => Came::Ended,
-        Ok(size) => Came::Bytes(size.min(lent.len())),
+        Ok(0) => Ok(Came::Ended),
+        Ok(size) => Ok(Came::Bytes(size.min(lent.len()))),
         Err(error) => failed(clock, error),
     }
 }
 
 // One read. Where no room is lent nothing comes, which is not the end: a caller that asks again lends some. What came stands at the
 // room's start, and is gone from what is left to be read.
-pub fn read_some<R: Read>(clock: &impl Clock, from: &mut R, room: &mut [u8]) -> Came
+pub fn read_some<R: Read>(clock: &impl Clock, from: &mut R, room: &mut [u8]) -> io::Result<Came>
     ensures fits { size_of result ≤ length room.new }
     ensures bytes { Consumes (R.remaining from.old) (R.remaining from.new) (take (size_of result) room.new) }
 {
-    if room.len() == 0 {
-        return Came::Nothing;
+    if room.is_empty() {
+        return Ok(Came::Nothing);
     }
     let answer = from.read(room);
     came_of(clock, answer, room)
@@ -77,20 +76,40 @@ pub fn write_on<W: Write>(clock: &impl Clock, to: &mut W, text: &[u8]) -> io::Re
     ensures part { AppendsFront (W.contents to.old) (W.contents to.new) text.now }
 {
     let mut done: usize = 0;
-    let mut tries = u64::MAX;
-    while done < text.len() {
-        if tries == 0 {
-            return Err(Error::from(ErrorKind::TimedOut));
+    'tries: for _ in 0..u64::MAX {
+        if text.len() <= done {
+            return Ok(());
         }
-        tries -= 1;
-        let rest: &[u8] = &text[done..];
-        let came = came_of(clock, to.write(rest), rest);
-        match came {
+        let rest = &text[done..];
+        match came_of(clock, to.write(rest), rest)? {
             Came::Bytes(taken) => done += taken,
             Came::Nothing => {}
             Came::Ended => return Err(Error::from(ErrorKind::WriteZero)),
-            Came::Failed(error) => return Err(error),
         }
     }
-    Ok(())
+    Err(Error::from(ErrorKind::TimedOut))
+}
+
+// A writer that is written to with patience.
+#[derive(Drop)]
+pub struct Patient<'a, C, W> {
+    clock: &'a C,
+    to: W,
+}
+
+impl<'a, C: Clock, W: Write> Patient<'a, C, W> {
+    pub fn new(clock: &'a C, to: W) -> Self {
+        Self { clock, to }
+    }
+}
+
+impl<C: Clock, W: Write> Write for Patient<'_, C, W> {
+    fn write(&mut self, text: &[u8]) -> io::Result<usize> {
+        write_on(self.clock, &mut self.to, text)?;
+        Ok(text.len())
+    }
+
+    fn flush(&mut self) -> io::Result<()> {
+        self.to.flush()
+    }
 }

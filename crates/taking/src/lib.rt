@@ -3,7 +3,7 @@
 #![tactic(auto)]
 
 ghost use Rattle.std.specs.Prelude.{◌≡◌};
-ghost use Rattle.taking.specs.Taking.{came_more, take_lock_data, take_data, take, loaded_data, loaded};
+ghost use Rattle.taking.specs.Taking.{came_more, take_lock_data, take_data, take, loaded};
 
 use addressing::{take_address, take_busy, take_choice};
 use control::phase::{Came, Data, Phase};
@@ -20,8 +20,7 @@ fn came_more(came: Came, byte: u8) -> Came
         Came::Zero => Came::One(byte),
         Came::One(first) => Came::Two(first, byte),
         Came::Two(first, second) => Came::Three(first, second, byte),
-        Came::Three(_, _, _) => Came::More,
-        Came::More => Came::More,
+        Came::Three(..) | Came::More => Came::More,
     }
 }
 
@@ -42,16 +41,19 @@ fn take_data(kind: Data, c: Control, byte: u8) -> Answered
 {
     match kind {
         Data::ToArray => {
-            let moved = c.arraycounter_at(next_in_page(c.part, c.arraycounter));
-            moved.acked(Phase::TakesData(Data::ToArray))
+            let next = next_in_page(c.part, c.arraycounter);
+            c.arraycounter_at(next)
+                .acked(Phase::TakesData(Data::ToArray))
         }
         Data::ToSecurity => {
-            let moved = c.securitycounter_at(next_in_page(c.part, c.securitycounter));
-            moved.acked(Phase::TakesData(Data::ToSecurity))
+            let next = next_in_page(c.part, c.securitycounter);
+            c.securitycounter_at(next)
+                .acked(Phase::TakesData(Data::ToSecurity))
         }
-        Data::ToConfiguration(came) => c.acked(Phase::TakesData(Data::ToConfiguration(came_more(
-            came, byte,
-        )))),
+        Data::ToConfiguration(came) => {
+            let came = came_more(came, byte);
+            c.acked(Phase::TakesData(Data::ToConfiguration(came)))
+        }
         Data::ToLock(_) => take_lock_data(c),
         Data::ToNowhere => c.acked(Phase::TakesData(Data::ToNowhere)),
     }
@@ -62,45 +64,26 @@ fn take_data(kind: Data, c: Control, byte: u8) -> Answered
 pub fn take(c: Control, first: bool, byte: u8) -> Answered
     ensures { result ≡ take c first byte }
 {
-    let phase = c.phase;
-    match phase {
-        Phase::Standby => c.stays(),
+    match c.phase {
         Phase::Busy => take_busy(c, first, byte),
         Phase::AwaitsAddress => take_address(c, byte),
         Phase::AwaitsChoice => take_choice(c, byte),
         Phase::AwaitsWord(word) => take_word(word, c, byte),
         Phase::TakesData(kind) => take_data(kind, c, byte),
-        Phase::SendsByte(_) => c.stays(),
+        Phase::Standby | Phase::SendsByte(_) => c.stays(),
     }
 }
 
-// A data byte goes into the load where it is for the array or the security register. On a locked page lock data ends the
-// exchange, and any load with it.
-fn loaded_data(kind: Data, span: Span, c: Control, byte: u8, values: &mut [u8; PAGE_MOST]) -> Span
-    ensures { (result, values.new) ≡ loaded_data kind span c byte values.old }
-{
-    match kind {
-        Data::ToArray => span.put(c.part, c.arraycounter, byte, values),
-        Data::ToSecurity => span.put(c.part, c.securitycounter, byte, values),
-        Data::ToConfiguration(_) => span,
-        Data::ToLock(_) => { if c.idlocked { span.dropped() } else { span } }
-        Data::ToNowhere => span,
-    }
-}
-
-// What is loaded after a byte sent, and the values.
+// What is loaded after a byte sent, and the values. A data byte goes into the load where it is for the array or the security register. On a
+// locked page lock data ends the exchange, and any load with it.
 #[tactic(auto, unfolding(crate::specs::Taking::span_after, crate::specs::Taking::values_after))]
 pub fn loaded(span: Span, c: Control, byte: u8, values: &mut [u8; PAGE_MOST]) -> Span
     ensures { (result, values.new) ≡ loaded span c byte values.old }
 {
-    let phase = c.phase;
-    match phase {
-        Phase::Standby => span,
-        Phase::Busy => span,
-        Phase::AwaitsAddress => span,
-        Phase::AwaitsChoice => span,
-        Phase::AwaitsWord(_) => span,
-        Phase::TakesData(kind) => loaded_data(kind, span, c, byte, values),
-        Phase::SendsByte(_) => span,
+    match c.phase {
+        Phase::TakesData(Data::ToArray) => span.put(c.part, c.arraycounter, byte, values),
+        Phase::TakesData(Data::ToSecurity) => span.put(c.part, c.securitycounter, byte, values),
+        Phase::TakesData(Data::ToLock(_)) if c.idlocked => span.dropped(),
+        _ => span,
     }
 }

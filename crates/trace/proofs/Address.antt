@@ -3,11 +3,11 @@ use Prim.Native.Nat.{ℕ, ◌/◌, ◌%◌}
 use mathlib.Core.Bool.{Bool, true, false, cond, ◌&&◌, ◌||◌}
 use mathlib.Core.Path.{◌≡◌, refl}
 use lib.Dec.{eqb}
+use native.Mathlib.Omega.{arith}
 use borrow.Author.Tests.{eqb-true}
 use Rattle.parts.specs.Part.{geometry_of}
 use Rattle.parts.specs.Address.{answers, a16_of}
 use Rattle.control.specs.declared.Control.{Control}
-use Rattle.addressing.specs.declared.Call.{Call}
 use Rattle.addressing.specs.declared.Call.TheVariants.{ReadArray, WriteArray, ReadRegister, WriteRegister, Nobody}
 use Rattle.addressing.specs.Address.{call_by_form, is_named}
 use Rattle.trace.specs.Chips.{is_array_byte, is_register_byte, has_address}
@@ -15,14 +15,7 @@ use Rattle.trace.specs.Chips.{is_array_byte, is_register_byte, has_address}
 -- a byte that is neither F8h nor F9h, by the tests on it
 by_tests : (has array registers reads a16 : Bool)
     → ((array || registers) && has) ≡ is_named (cond has (cond array (cond reads ReadArray (WriteArray a16)) (cond registers (cond reads ReadRegister WriteRegister) Nobody)) Nobody)
-by_tests true true registers true a16 = refl
-by_tests true true registers false a16 = refl
-by_tests true false true true a16 = refl
-by_tests true false true false a16 = refl
-by_tests true false false reads a16 = refl
-by_tests false true registers reads a16 = refl
-by_tests false false true reads a16 = refl
-by_tests false false false reads a16 = refl
+by_tests has array registers reads a16 = grind arith
 
 pub has_address_by_form : (byte : ℕ) (c : Control) → has_address byte c ≡ is_named (call_by_form (geometry_of c.part) c.strap byte)
 unfolding call_by_form

@@ -1,5 +1,5 @@
 pub mod Address
 pub mod Partner
-pub mod Plain
+pub mod Placed
 pub mod Stopping
 pub mod Unique

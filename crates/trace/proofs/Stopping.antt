@@ -1,35 +1,23 @@
 -- What is said of a Stop is what it does. A chip that was not busy is busy afterwards exactly where something is said to be stored; its shares
 -- are then the page that the rules store, and else they are as they were.
-use Prim.Native.Nat.{ℕ, ◌%◌, ◌<◌}
+use Prim.Native.Nat.{ℕ, ◌<◌}
 use native.Mathlib.Omega.{arith}
-use mathlib.Core.Bool.{Bool, true, false, cond, not, ◌&&◌, false≢true}
+use mathlib.Core.Bool.{Bool, true, false}
 use mathlib.Core.List.{List}
-use mathlib.Core.Path.{◌≡◌, refl, sym, subst⁻¹}
-use Rattle.parts.specs.declared.part.Geometry.{Geometry}
+use mathlib.Core.Path.{◌≡◌, subst⁻¹}
 use Rattle.parts.specs.Part.{geometry_of}
-use Rattle.regions.specs.Page.{in_id_page}
 use Rattle.load.specs.declared.Span.{Span}
-use Rattle.load.specs.Span.{is_empty}
 use Rattle.load.specs.Load.{load_of, store_page}
 use Rattle.control.specs.declared.Control.{Control}
 use Rattle.control.specs.declared.phase.Phase.{Phase}
-use Rattle.control.specs.declared.phase.Phase.TheVariants.{Standby, Busy, AwaitsAddress, AwaitsChoice, AwaitsWord, TakesData, SendsByte}
-use Rattle.control.specs.declared.phase.Data.{Data}
-use Rattle.control.specs.declared.phase.Data.TheVariants.{ToArray, ToSecurity, ToConfiguration, ToLock, ToNowhere}
-use Rattle.control.specs.declared.phase.Came.{Came}
-use Rattle.control.specs.declared.phase.Came.TheVariants.{Zero, One, Two, Three, More}
 use Rattle.control.specs.Phase.{is_busy}
-use Rattle.control.specs.Control.{configured, idlocked_now}
-use Rattle.control.specs.Exchange.{standby_now, busy_now}
-use Rattle.control.specs.Bits.{configlock}
-use Rattle.configuration.specs.Configuration.{confirms}
 use Rattle.cycle.specs.Stop.{writes_array, writes_security}
 use Rattle.cycle.specs.Stop as cycle
 use Rattle.chip.specs.declared.Chip.{Chip}
 use Rattle.chip.specs.Chip.{stop}
 use Rattle.chip.specs.Chip as chip
 use Rattle.chip.specs.declared.event.Event.TheVariants as event
-use Rattle.refusal.specs.declared.Verdict.TheVariants.{Passed}
+use Rattle.std.specs.Prelude.{Some, Ok}
 use Rattle.refusal.specs.Checks.{first_of}
 use Rattle.decode.specs.Decode.{addressed_of}
 use Rattle.lineup.specs.Chips.{chip_at, control_at, places_of}
@@ -44,12 +32,10 @@ use Rattle.trace.specs.declared.ending.Ending.{Ending}
 use Rattle.trace.specs.declared.ending.Ending.TheVariants.{Idle, ReadEnds, Stores, StoresNothing}
 use Rattle.trace.specs.declared.ending.Stored.{Stored}
 use Rattle.trace.specs.declared.ending.Stored.TheVariants.{InArray, InSecurity, Configuration, IdLock}
-use Rattle.trace.specs.declared.ending.Reason.{Reason}
-use Rattle.trace.specs.declared.ending.Reason.TheVariants.{NoData, Protected, ReadOnly, IdLocked, ConfigurationLocked, NotConfirmed}
 use Rattle.trace.specs.declared.role.Act.TheVariants.{Stop}
 use Rattle.trace.specs.declared.chips.Test.TheVariants.{Partner}
 use Rattle.trace.specs.Chips.{is_partner, who}
-use Rattle.trace.specs.Ending.{run_of, ending_in, ending_of}
+use Rattle.trace.specs.Ending.{ending_in, ending_of}
 use Rattle.trace.specs.Role.{role_as, role_of}
 use Rattle.trace.proofs.Partner.{the_partner_is_named}
 
@@ -80,53 +66,9 @@ pub record Told (ending : Ending) (c : Control) (span : Span) (values array secu
   pub busy : is_busy left.0.phase ≡ stores ending
   pub shares : (left.1, left.2) ≡ shares_after ending c span values array security
 
-module _ (c : Control) (span : Span) (values array security : List ℕ) where
-  abbrev g : Geometry
-  g = geometry_of c.part
-
-  -- a Stop that stores to a share where a test holds, and else says why not
-  by_array : (test : Bool) (stored : List ℕ) (reason : Reason) (kept : Stored) → stored_to kept c span values array security ≡ (stored, security)
-      → Told (cond test (Stores kept) (StoresNothing reason)) c span values array security ((cond {A = Control × List ℕ} test (busy_now c, stored) (standby_now c, array)).0, (cond {A = Control × List ℕ} test (busy_now c, stored) (standby_now c, array)).1, security)
-  by_array true stored reason kept is = record { busy = refl; shares = sym is }
-  by_array false stored reason kept is = record { busy = refl; shares = refl }
-
-  by_security : (test : Bool) (stored : List ℕ) (reason : Reason) (kept : Stored) → stored_to kept c span values array security ≡ (array, stored)
-      → Told (cond test (Stores kept) (StoresNothing reason)) c span values array security ((cond {A = Control × List ℕ} test (busy_now c, stored) (standby_now c, security)).0, array, (cond {A = Control × List ℕ} test (busy_now c, stored) (standby_now c, security)).1)
-  by_security true stored reason kept is = record { busy = refl; shares = sym is }
-  by_security false stored reason kept is = record { busy = refl; shares = refl }
-
-  -- one that changes the chip alone
-  by_chip : (test : Bool) (next : Control) (reason : Reason) (kept : Stored) → stored_to kept c span values array security ≡ (array, security)
-      → Told (cond test (Stores kept) (StoresNothing reason)) c span values array security (cond test (busy_now next) (standby_now c), array, security)
-  by_chip true next reason kept is = record { busy = refl; shares = sym is }
-  by_chip false next reason kept is = record { busy = refl; shares = refl }
-
-  nothing : (ending : Ending) → stores ending ≡ false → shares_after ending c span values array security ≡ (array, security)
-      → Told ending c span values array security (standby_now c, array, security)
-  nothing ending none same = record { busy = sym none; shares = sym same }
-
-  in_configuration : (came : Came) → Told (ending_in (TakesData (ToConfiguration came)) c span) c span values array security (cycle.stop_data (ToConfiguration came) c (load_of span values) array security)
-  in_configuration Zero = nothing _ refl refl
-  in_configuration (One first) = nothing _ refl refl
-  in_configuration (Two first second) = nothing _ refl refl
-  in_configuration (Three first second third) = by_chip (confirms first third && not (configlock c)) (configured (first % 4) second c) (cond (configlock c) ConfigurationLocked NotConfirmed) (Configuration (first % 4) second) refl
-  in_configuration More = nothing _ refl refl
-
-  in_data : (kind : Data) → Told (ending_in (TakesData kind) c span) c span values array security (cycle.stop_data kind c (load_of span values) array security)
-  in_data ToArray = by_array (writes_array c span) (store_page g c.arraycounter (load_of span values) array) (cond (is_empty span) NoData Protected) (InArray (run_of g c.arraycounter span)) refl
-  in_data ToSecurity = by_security (writes_security c span) (store_page g c.securitycounter (load_of span values) security) (cond (is_empty span) NoData (cond (in_id_page g c.securitycounter) IdLocked ReadOnly)) (InSecurity (run_of g c.securitycounter span)) refl
-  in_data (ToConfiguration came) = in_configuration came
-  in_data (ToLock some) = by_chip (some && not c.idlocked) (idlocked_now c) (cond some IdLocked NoData) IdLock refl
-  in_data ToNowhere = nothing _ refl refl
-
-  in_phase_lem : (phase : Phase) → is_busy phase ≡ false → Told (ending_in phase c span) c span values array security (cycle.stop_in phase c (load_of span values) array security)
-  in_phase_lem Standby free = nothing _ refl refl
-  in_phase_lem Busy free = absurd (false≢true (sym free))
-  in_phase_lem AwaitsAddress free = nothing _ refl refl
-  in_phase_lem AwaitsChoice free = nothing _ refl refl
-  in_phase_lem (AwaitsWord word) free = nothing _ refl refl
-  in_phase_lem (TakesData kind) free = in_data kind
-  in_phase_lem (SendsByte source) free = nothing _ refl refl
+in_phase_lem : (phase : Phase) (c : Control) (span : Span) (values array security : List ℕ) → is_busy phase ≡ false
+    → Told (ending_in phase c span) c span values array security (cycle.stop_in phase c (load_of span values) array security)
+in_phase_lem phase c span values array security free = grind arith
 
 -- a Stop of one chip
 pub a_stop_is_told : (chip : Chip) (values array security : List ℕ) → is_busy chip.control.phase ≡ false
@@ -134,7 +76,7 @@ pub a_stop_is_told : (chip : Chip) (values array security : List ℕ) → is_bus
     Told (ending_of chip) chip.control chip.span values array security (after.0.control, after.1, after.2)
 unfolding ending_of cycle.stop
 a_stop_is_told chip values array security free =
-    rw free (in_phase_lem chip.control chip.span values array security chip.control.phase free)
+    rw free (in_phase_lem chip.control.phase chip.control chip.span values array security free)
 
 carried : (P : Chip → List ℕ → List ℕ → Type 0) {c next : Chip} {a kept s held : List ℕ} → c ≡ next → a ≡ kept → s ≡ held → P next kept held → P c a s
 carried P {next = next} {a = a} {kept = kept} {s = s} chips arrays securities holds =
@@ -143,7 +85,7 @@ carried P {next = next} {a = a} {kept = kept} {s = s} chips arrays securities ho
     (subst⁻¹ (λ (x : List ℕ). P next kept x) securities holds))
 
 -- and of the bus: each chip that was not busy, on its own shares of the two stores
-pub a_stop_of_the_bus_is_told : (bus : Bus) (array security : List ℕ) → OfItsType bus → first_of (step_checks bus array security 0x0200) ≡ Passed
+pub a_stop_of_the_bus_is_told : (bus : Bus) (array security : List ℕ) → OfItsType bus → first_of (step_checks bus array security 0x0200) ≡ Ok tt
     → (i : ℕ) → i < bus.count → is_busy (control_at bus.chips i).phase ≡ false
     → let after = step bus array security 0x0200 in
     let places = places_of bus.chips in
@@ -163,38 +105,26 @@ a_stop_of_the_bus_is_told bus array security typed passes i below free =
 
 -- of a chip that is not the host's partner nothing is said
 pub no_partner_ends : (phase : Phase) (c : Control) (span : Span) → is_partner phase ≡ false → ending_in phase c span ≡ Idle
-no_partner_ends Standby c span none = refl
-no_partner_ends Busy c span none = refl
-no_partner_ends AwaitsAddress c span none = refl
-no_partner_ends AwaitsChoice c span none = refl
-no_partner_ends (AwaitsWord word) c span none = absurd (false≢true (sym none))
-no_partner_ends (TakesData kind) c span none = absurd (false≢true (sym none))
-no_partner_ends (SendsByte source) c span none = absurd (false≢true (sym none))
+no_partner_ends phase c span none = grind arith
 
 partner_free : (phase : Phase) → is_partner phase ≡ true → is_busy phase ≡ false
-partner_free Standby partner = refl
-partner_free Busy partner = absurd (false≢true partner)
-partner_free AwaitsAddress partner = refl
-partner_free AwaitsChoice partner = refl
-partner_free (AwaitsWord word) partner = refl
-partner_free (TakesData kind) partner = refl
-partner_free (SendsByte source) partner = refl
+partner_free phase partner = grind arith
 
 -- a Stop is told of the host's partner, with the ending that it then has
 pub record Ended (bus : Bus) (array security : List ℕ) (i : ℕ) : Type 0 where
-  pub told : (named : ℕ) → role_of event.Stop named bus.count bus.chips ≡ role_as i (Stop (ending_of (chip_at bus.chips i)))
+  pub told : (named : ℕ) → role_of event.Stop named bus.count bus.chips ≡ role_as (Some i) (Stop (ending_of (chip_at bus.chips i)))
   pub done : let after = step bus array security 0x0200 in
       let places = places_of bus.chips in
       Told (ending_of (chip_at bus.chips i)) (control_at bus.chips i) (chip_at bus.chips i).span bus.values (array_share places i array) (security_share places i security)
       (control_at after.0.bus.chips i, array_share places i after.1, security_share places i after.2)
 
-pub the_partner_ends_as_told : (bus : Bus) (array security : List ℕ) → OfItsType bus → first_of (step_checks bus array security 0x0200) ≡ Passed
+pub the_partner_ends_as_told : (bus : Bus) (array security : List ℕ) → OfItsType bus → first_of (step_checks bus array security 0x0200) ≡ Ok tt
     → (i : ℕ) → i < bus.count → is_partner (control_at bus.chips i).phase ≡ true → Ended bus array security i
 unfolding role_of
 the_partner_ends_as_told bus array security typed passes i below partner =
     let none = none_holds (step_checks bus array security 0x0200) passes in
     let enters : Entered bus array security = entered bus array security (rw (none.0, none.1.0)) in
-    let is_named_lem : who Partner bus.count bus.chips ≡ i =
+    let is_named_lem : who Partner bus.count bus.chips ≡ Some i =
     the_partner_is_named bus.count bus.started bus.chips enters.formed i (omega (arith, enters.all_placed)) partner in
     record {
       told = λ named. rw is_named_lem;

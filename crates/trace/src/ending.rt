@@ -4,7 +4,6 @@ ghost use Rattle.parts.specs.Part.{geometry_of};
 ghost use Rattle.trace.specs.Ending.{run_of, ending_array, ending_security, ending_three, ending_configuration, ending_lock, ending_data, ending_of};
 
 use base::bit::bit_of;
-use base::logic::and;
 use chip::Chip;
 use configuration::stop_configuration;
 use control::Control;
@@ -14,7 +13,7 @@ use parts::part::geometry_of;
 use protection::{id_page_protected, is_protected};
 use regions::page::{in_id_page, page_of};
 
-#[derive(Clone, Copy)]
+#[derive(Clone, Copy, Debug, PartialEq, Eq)]
 pub enum Ending {
     // The chip took no part in an exchange.
     Idle,
@@ -27,7 +26,7 @@ pub enum Ending {
 }
 
 // What is stored. Of the configuration register both bytes.
-#[derive(Clone, Copy)]
+#[derive(Clone, Copy, Debug, PartialEq, Eq)]
 pub enum Stored {
     InArray(Run),
     InSecurity(Run),
@@ -37,14 +36,14 @@ pub enum Stored {
 
 // So many bytes from an address on. Those that go round come to the end of the page, and go on at its start. An address is wide, so that no
 // state makes it wrap.
-#[derive(Clone, Copy)]
+#[derive(Clone, Copy, Debug, PartialEq, Eq)]
 pub struct Run {
     pub first: u64,
     pub count: u16,
     pub round: bool,
 }
 
-#[derive(Clone, Copy)]
+#[derive(Clone, Copy, Debug, PartialEq, Eq)]
 pub enum Reason {
     // The word address is not whole.
     NoAddress,
@@ -80,33 +79,27 @@ fn run_of(part: u8, at: u32, span: Span) -> Run
 fn ending_array(c: Control, span: Span) -> Ending
     ensures { result ≡ ending_array c span }
 {
-    let some = !span.is_empty();
-    let free = !is_protected(c);
-    if and(some, free) {
-        return Ending::Stores(Stored::InArray(run_of(c.part, c.arraycounter, span)));
+    if span.is_empty() {
+        Ending::StoresNothing(Reason::NoData)
+    } else if is_protected(c) {
+        Ending::StoresNothing(Reason::Protected)
+    } else {
+        Ending::Stores(Stored::InArray(run_of(c.part, c.arraycounter, span)))
     }
-    if some {
-        return Ending::StoresNothing(Reason::Protected);
-    }
-    Ending::StoresNothing(Reason::NoData)
 }
 
 fn ending_security(c: Control, span: Span) -> Ending
     ensures { result ≡ ending_security c span }
 {
-    let some = !span.is_empty();
-    let free = !id_page_protected(c);
-    let inside = in_id_page(c.part, c.securitycounter);
-    if and(some, and(inside, free)) {
-        return Ending::Stores(Stored::InSecurity(run_of(c.part, c.securitycounter, span)));
+    if span.is_empty() {
+        Ending::StoresNothing(Reason::NoData)
+    } else if !in_id_page(c.part, c.securitycounter) {
+        Ending::StoresNothing(Reason::ReadOnly)
+    } else if id_page_protected(c) {
+        Ending::StoresNothing(Reason::IdLocked)
+    } else {
+        Ending::Stores(Stored::InSecurity(run_of(c.part, c.securitycounter, span)))
     }
-    if !some {
-        return Ending::StoresNothing(Reason::NoData);
-    }
-    if inside {
-        return Ending::StoresNothing(Reason::IdLocked);
-    }
-    Ending::StoresNothing(Reason::ReadOnly)
 }
 
 // Three bytes came for the configuration register.
@@ -114,14 +107,13 @@ fn ending_three(c: Control, first: u8, second: u8, third: u8) -> Ending
     ensures { result ≡ ending_three c first second third }
 {
     let stopped = stop_configuration(Came::Three(first, second, third), c);
-    let phase = stopped.phase;
-    if is_busy(phase) {
-        return Ending::Stores(Stored::Configuration(first % WRITABLE, second));
+    if is_busy(stopped.phase) {
+        Ending::Stores(Stored::Configuration(first % WRITABLE, second))
+    } else if bit_of(c.config0, LOCK) {
+        Ending::StoresNothing(Reason::ConfigurationLocked)
+    } else {
+        Ending::StoresNothing(Reason::NotConfirmed)
     }
-    if bit_of(c.config0, LOCK) {
-        return Ending::StoresNothing(Reason::ConfigurationLocked);
-    }
-    Ending::StoresNothing(Reason::NotConfirmed)
 }
 
 fn ending_configuration(c: Control, came: Came) -> Ending
@@ -129,24 +121,21 @@ fn ending_configuration(c: Control, came: Came) -> Ending
 {
     match came {
         Came::Zero => Ending::StoresNothing(Reason::NoData),
-        Came::One(_) => Ending::StoresNothing(Reason::NotThree),
-        Came::Two(_, _) => Ending::StoresNothing(Reason::NotThree),
         Came::Three(first, second, third) => ending_three(c, first, second, third),
-        Came::More => Ending::StoresNothing(Reason::NotThree),
+        _ => Ending::StoresNothing(Reason::NotThree),
     }
 }
 
 fn ending_lock(c: Control, some: bool) -> Ending
     ensures { result ≡ ending_lock c some }
 {
-    let free = !c.idlocked;
-    if and(some, free) {
-        return Ending::Stores(Stored::IdLock);
+    if !some {
+        Ending::StoresNothing(Reason::NoData)
+    } else if c.idlocked {
+        Ending::StoresNothing(Reason::IdLocked)
+    } else {
+        Ending::Stores(Stored::IdLock)
     }
-    if some {
-        return Ending::StoresNothing(Reason::IdLocked);
-    }
-    Ending::StoresNothing(Reason::NoData)
 }
 
 fn ending_data(kind: Data, c: Control, span: Span) -> Ending
@@ -165,16 +154,11 @@ fn ending_data(kind: Data, c: Control, span: Span) -> Ending
 pub fn ending_of(chip: Chip) -> Ending
     ensures { result ≡ ending_of chip }
 {
-    let control = chip.control;
-    let span = chip.span;
-    let phase = control.phase;
-    match phase {
-        Phase::Standby => Ending::Idle,
-        Phase::Busy => Ending::Idle,
-        Phase::AwaitsAddress => Ending::Idle,
-        Phase::AwaitsChoice => Ending::Idle,
+    let c = chip.control;
+    match c.phase {
         Phase::AwaitsWord(_) => Ending::StoresNothing(Reason::NoAddress),
-        Phase::TakesData(kind) => ending_data(kind, control, span),
+        Phase::TakesData(kind) => ending_data(kind, c, chip.span),
         Phase::SendsByte(_) => Ending::ReadEnds,
+        _ => Ending::Idle,
     }
 }

@@ -1,73 +1,59 @@
-// An event that was refused, as a draft: its name, and why it was refused.
-use crate::draft::pick;
+// An event that was refused, in words: its name, and why it was refused.
+use crate::scene::Scene;
+use crate::text::Words;
 use chip::event::Event;
-use refusal::{Refusal, number_of};
+use refusal::Refusal;
+use std::fmt::{Result, Write};
+
+fn event_name(event: Event) -> &'static str {
+    match event {
+        Event::Start => "Start",
+        Event::Stop => "Stop",
+        Event::Sent(_, _) => "byte",
+        Event::Read(_) => "read",
+        Event::Wp(false) => "WP low",
+        Event::Wp(true) => "WP high",
+        Event::CycleOver => "write cycle over",
+        Event::PowerUp => "power up",
+    }
+}
+
+// Which values are allowed.
+fn values_text(event: Event) -> &'static str {
+    match event {
+        Event::Start | Event::Stop | Event::PowerUp => ", the value is not 00",
+        Event::Sent(_, _) => "",
+        Event::Read(_) => ", the value is neither 00 nor 01",
+        Event::Wp(_) | Event::CycleOver => ", there is no such chip",
+    }
+}
+
+// Who is in the way.
+fn say_clash(w: &mut Words, event: Event, scene: &Scene) -> Result {
+    match event {
+        Event::Sent(_, _) => write!(w, ", {} is sending", scene.chip),
+        Event::Read(_) => write!(w, ", {} taking bytes", scene.taking),
+        _ => Ok(()),
+    }
+}
 
 // Where the kind is none, the event has no name.
-fn name_number(event: Event, status: u8) -> usize {
-    if status == number_of(Refusal::UnknownKind) {
-        return 0;
+pub fn say_refused(w: &mut Words, event: Event, status: u8, scene: &Scene) -> Result {
+    let is = |refusal: Refusal| status == u8::from(refusal);
+    if is(Refusal::UnknownKind) {
+        return write!(
+            w,
+            "no event: refused ({status:02X}), the kind is not 01 to 08"
+        );
     }
-    match event {
-        Event::Start => 1,
-        Event::Stop => 2,
-        Event::Sent(_, _) => 3,
-        Event::Read(_) => 4,
-        Event::Wp(level) => { if level { 6 } else { 5 } }
-        Event::CycleOver => 7,
-        Event::PowerUp => 8,
+    write!(w, "{}: refused ({status:02X})", event_name(event))?;
+    if is(Refusal::WrongValue) {
+        write!(w, "{}", values_text(event))
+    } else if is(Refusal::Clash) {
+        say_clash(w, event, scene)
+    } else if is(Refusal::NotBusy) {
+        write!(w, ", {} is not busy", scene.chip)
+    } else {
+        Ok(())
     }
-}
-
-// 7: which values are allowed.
-fn value_number(event: Event) -> usize {
-    match event {
-        Event::Start => 2,
-        Event::Stop => 2,
-        Event::Sent(_, _) => 0,
-        Event::Read(_) => 3,
-        Event::Wp(_) => 4,
-        Event::CycleOver => 4,
-        Event::PowerUp => 2,
-    }
-}
-
-// 8: who is in the way.
-fn clash_number(event: Event) -> usize {
-    match event {
-        Event::Sent(_, _) => 5,
-        Event::Read(_) => 6,
-        _ => 0,
-    }
-}
-
-fn reason_number(event: Event, status: u8) -> usize {
-    if status == number_of(Refusal::UnknownKind) {
-        return 1;
-    }
-    if status == number_of(Refusal::WrongValue) {
-        return value_number(event);
-    }
-    if status == number_of(Refusal::Clash) {
-        return clash_number(event);
-    }
-    if status == number_of(Refusal::NotBusy) {
-        return 7;
-    }
-    0
-}
-
-pub fn say_refused(draft: &mut [u8], event: Event, status: u8) -> usize {
-    let at = pick(
-        draft,
-        0,
-        name_number(event, status),
-        b"no event: refused ($b)|Start: refused ($b)|Stop: refused ($b)|byte: refused ($b)|read: refused ($b)|WP low: refused ($b)|WP high: refused ($b)|write cycle over: refused ($b)|power up: refused ($b)",
-    );
-    pick(
-        draft,
-        at,
-        reason_number(event, status),
-        b"|, the kind is not 01 to 08|, the value is not 00|, the value is neither 00 nor 01|, there is no such chip|, chip $c is sending|, $t taking bytes|, chip $c is not busy",
-    )
 }

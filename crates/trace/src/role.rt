@@ -1,8 +1,8 @@
 // What an event is for the chips that it meets (paper, "Events and replies"), and which chip it is for.
 ghost use Rattle.std.specs.Prelude.{◌≡◌};
-ghost use Rattle.trace.specs.Role.{address_role, choice_role, byte_act, read_act, sent_role, role_of};
+ghost use Rattle.trace.specs.Role.{role_as, address_role, choice_role, byte_act, read_act, role_of};
 
-use crate::chips::{NOBODY, Test, chip_at, is_array_byte, who};
+use crate::chips::{Test, chip_at, is_array_byte, who};
 use crate::dropped::{Dropped, dropped_of};
 use crate::ending::{Ending, ending_of};
 use board::PLACES;
@@ -10,14 +10,14 @@ use chip::Chip;
 use chip::event::Event;
 use control::phase::{Data, Phase, Source, Word};
 
-// A chip by its number, or NOBODY.
-#[derive(Clone, Copy)]
+// What the event is, and the number of the chip that it is for, if there is one.
+#[derive(Clone, Copy, Debug, PartialEq, Eq)]
 pub struct Role {
-    pub chip: usize,
+    pub chip: Option<usize>,
     pub act: Act,
 }
 
-#[derive(Clone, Copy)]
+#[derive(Clone, Copy, Debug, PartialEq, Eq)]
 pub enum Act {
     // It breaks off what the host's partner was at.
     Start(Dropped),
@@ -49,25 +49,22 @@ const F8: u8 = 0xF8;
 
 const F9: u8 = 0xF9;
 
+impl Role {
+    fn new(chip: Option<usize>, act: Act) -> Role
+        ensures { result ≡ role_as chip act }
+    {
+        Role { chip, act }
+    }
+}
+
 // The first byte after a Start.
 fn address_role(byte: u8, count: usize, chips: [Chip; PLACES]) -> Role
     ensures { result ≡ address_role byte count chips }
 {
-    if byte == F8 {
-        return Role {
-            chip: NOBODY,
-            act: Act::HostF8,
-        };
-    }
-    if byte == F9 {
-        return Role {
-            chip: who(Test::Chosen, count, chips),
-            act: Act::HostF9,
-        };
-    }
-    Role {
-        chip: who(Test::HasAddress(byte), count, chips),
-        act: Act::Address,
+    match byte {
+        F8 => Role::new(None, Act::HostF8),
+        F9 => Role::new(who(Test::Chosen, count, chips), Act::HostF9),
+        _ => Role::new(who(Test::HasAddress(byte), count, chips), Act::Address),
     }
 }
 
@@ -75,14 +72,9 @@ fn choice_role(byte: u8, count: usize, chips: [Chip; PLACES]) -> Role
     ensures { result ≡ choice_role byte count chips }
 {
     if is_array_byte(byte) {
-        return Role {
-            chip: who(Test::HasAddress(byte), count, chips),
-            act: Act::Choice,
-        };
-    }
-    Role {
-        chip: NOBODY,
-        act: Act::Choice,
+        Role::new(who(Test::HasAddress(byte), count, chips), Act::Choice)
+    } else {
+        Role::new(None, Act::Choice)
     }
 }
 
@@ -91,13 +83,10 @@ fn byte_act(phase: Phase) -> Act
     ensures { result ≡ byte_act phase }
 {
     match phase {
-        Phase::Standby => Act::ForNobody,
-        Phase::Busy => Act::ForNobody,
-        Phase::AwaitsAddress => Act::ForNobody,
-        Phase::AwaitsChoice => Act::ForNobody,
         Phase::AwaitsWord(word) => Act::WordByte(word),
         Phase::TakesData(kind) => Act::DataByte(kind),
         Phase::SendsByte(_) => Act::ForSender,
+        _ => Act::ForNobody,
     }
 }
 
@@ -106,73 +95,29 @@ fn read_act(phase: Phase) -> Act
     ensures { result ≡ read_act phase }
 {
     match phase {
-        Phase::Standby => Act::ReadFromNobody,
-        Phase::Busy => Act::ReadFromNobody,
-        Phase::AwaitsAddress => Act::ReadFromNobody,
-        Phase::AwaitsChoice => Act::ReadFromNobody,
-        Phase::AwaitsWord(_) => Act::ReadFromNobody,
-        Phase::TakesData(_) => Act::ReadFromNobody,
         Phase::SendsByte(source) => Act::ReadFrom(source),
+        _ => Act::ReadFromNobody,
     }
 }
 
-// Who awaits a byte that is not the first after a Start awaits the one after F8h.
-fn sent_role(
-    first: bool,
-    byte: u8,
-    partner: usize,
-    phase: Phase,
-    count: usize,
-    chips: [Chip; PLACES],
-) -> Role
-    ensures { result ≡ sent_role first byte partner phase count chips }
-{
-    if first {
-        return address_role(byte, count, chips);
-    }
-    if who(Test::Awaits, count, chips) < NOBODY {
-        return choice_role(byte, count, chips);
-    }
-    Role {
-        chip: partner,
-        act: byte_act(phase),
-    }
-}
-
-// `named` is the chip that events 05 to 07 name.
+// `named` is the chip that events 05 to 07 name. Who awaits a byte that is not the first after a Start awaits the one after F8h.
 #[tactic(auto, unfolding(crate::specs::Role::role_of))]
 pub fn role_of(event: Event, named: usize, count: usize, chips: [Chip; PLACES]) -> Role
     ensures { result ≡ role_of event named count chips }
 {
     let partner = who(Test::Partner, count, chips);
     let met = chip_at(chips, partner);
-    let control = met.control;
-    let phase = control.phase;
+    let phase = met.control.phase;
+    let is_awaited = who(Test::Awaits, count, chips).is_some();
     match event {
-        Event::Start => Role {
-            chip: partner,
-            act: Act::Start(dropped_of(met)),
-        },
-        Event::Stop => Role {
-            chip: partner,
-            act: Act::Stop(ending_of(met)),
-        },
-        Event::Sent(first, byte) => sent_role(first, byte, partner, phase, count, chips),
-        Event::Read(_) => Role {
-            chip: partner,
-            act: read_act(phase),
-        },
-        Event::Wp(level) => Role {
-            chip: named,
-            act: Act::Wp(level),
-        },
-        Event::CycleOver => Role {
-            chip: named,
-            act: Act::CycleOver,
-        },
-        Event::PowerUp => Role {
-            chip: partner,
-            act: Act::PowerUp(dropped_of(met)),
-        },
+        Event::Start => Role::new(partner, Act::Start(dropped_of(met))),
+        Event::Stop => Role::new(partner, Act::Stop(ending_of(met))),
+        Event::Sent(true, byte) => address_role(byte, count, chips),
+        Event::Sent(false, byte) if is_awaited => choice_role(byte, count, chips),
+        Event::Sent(false, _) => Role::new(partner, byte_act(phase)),
+        Event::Read(_) => Role::new(partner, read_act(phase)),
+        Event::Wp(level) => Role::new(Some(named), Act::Wp(level)),
+        Event::CycleOver => Role::new(Some(named), Act::CycleOver),
+        Event::PowerUp => Role::new(partner, Act::PowerUp(dropped_of(met))),
     }
 }

@@ -1,6 +1,6 @@
 // The value of each byte as a digit 0-9 A-F (paper, "The transcript": a table of 256 entries).
 ghost use Rattle.std.specs.Prelude.{◌≡◌};
-ghost use Rattle.transcript.specs.Digit.{digit_of};
+ghost use Rattle.transcript.specs.Digit.{digit_of, digit_value};
 
 // What the table holds for a byte that is no digit.
 pub const NO_DIGIT: u8 = 255;
@@ -8,7 +8,7 @@ pub const NO_DIGIT: u8 = 255;
 // How many digits there are.
 pub const DIGITS: u8 = 16;
 
-pub const DIGIT: [u8; 256] = [
+pub static DIGIT: [u8; 256] = [
     NO_DIGIT, NO_DIGIT, NO_DIGIT, NO_DIGIT, NO_DIGIT, NO_DIGIT, NO_DIGIT, NO_DIGIT, NO_DIGIT,
     NO_DIGIT, NO_DIGIT, NO_DIGIT, NO_DIGIT, NO_DIGIT, NO_DIGIT, NO_DIGIT, NO_DIGIT, NO_DIGIT,
     NO_DIGIT, NO_DIGIT, NO_DIGIT, NO_DIGIT, NO_DIGIT, NO_DIGIT, NO_DIGIT, NO_DIGIT, NO_DIGIT,
@@ -45,4 +45,12 @@ pub fn digit_of(byte: u8) -> u8
     ensures { result ≡ digit_of byte }
 {
     DIGIT[byte as usize]
+}
+
+// The value of a byte, where it is a digit.
+pub fn digit_value(byte: u8) -> Option<u8>
+    ensures { result ≡ digit_value byte }
+{
+    let digit = digit_of(byte);
+    (digit < DIGITS).then_some(digit)
 }

@@ -16,7 +16,7 @@ use Rattle.control.specs.Phase.{is_sending}
 use Rattle.chip.specs.declared.Chip.{Chip}
 use Rattle.chip.specs.declared.event.Event.{Event}
 use Rattle.chip.specs.declared.event.Event.TheVariants.{Start, Sent}
-use Rattle.refusal.specs.declared.Verdict.TheVariants.{Passed}
+use Rattle.std.specs.Prelude.{Ok}
 use Rattle.refusal.specs.Refusal.{answer_word}
 use Rattle.board.specs.Place.{placed}
 use Rattle.decode.specs.declared.Addressed.TheVariants.{ToAll}
@@ -77,7 +77,7 @@ module _ (world : World) (e : Entering world) (heeding : (i : ℕ) → i < world
       ap (line_reply f8)
       (silent_line said_by (placed count) λ i below. says i below ∙ rw (any_none free (placed count) i is below))
 
-  calm : line_verdict (ToAll f8) world ≡ Passed
+  calm : line_verdict (ToAll f8) world ≡ Ok tt
   calm =
       to_all_passes world f8
       (none_any (λ (i : ℕ). is_sending (control_at chips i).phase) (placed count) (λ i below. heeding_sends_nothing (control_at chips i).phase (heeding i (omega (arith, entry.all_placed)))))
@@ -94,7 +94,7 @@ start_leaves : (world : World) (word : ℕ) → Entering world → is_start word
     → (i : ℕ) → i < (after_one step world word).0.count → is_heeding (control_at (after_one step world word).0.chips i).phase ≡ true
 start_leaves world word e is i below =
     let legal = (start_asks world.0.started world.0.count word is).0 in
-    let calm : line_verdict (ToAll Start) world ≡ Passed = to_all_passes world Start (none_any (λ (i : ℕ). false) (placed world.0.count) (λ i below. refl)) in
+    let calm : line_verdict (ToAll Start) world ≡ Ok tt = to_all_passes world Start (none_any (λ (i : ℕ). false) (placed world.0.count) (λ i below. refl)) in
     ap (λ (w : World). is_heeding (control_at w.0.chips 0).phase) (each_moves world word (ToAll Start) e legal calm i (omega (arith, below, count_kept world word (ToAll Start) e legal)))
     ∙ start_heeds (chip_at world.0.chips i) world.0.values (alone i world).1 (alone i world).2
 

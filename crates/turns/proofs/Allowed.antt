@@ -8,7 +8,7 @@ use lib.Dec.{ltb}
 use lib.ListN.{length, get_or}
 use borrow.Author.Tests.{ltb-true}
 use Rattle.base.proofs.logic.Laws.{and_left, and_right}
-use Rattle.refusal.specs.declared.Verdict.TheVariants.{Passed}
+use Rattle.std.specs.Prelude.{Ok}
 use Rattle.refusal.specs.Checks.{first_of}
 use Rattle.board.specs.declared.Place.{Place}
 use Rattle.board.specs.Place.{place_at}
@@ -20,7 +20,7 @@ use Rattle.turns.proofs.Grammar.{Cases, turn_by_cases}
 
 module _ (count : ℕ) where
   abbrev Allowed : List ℕ → Type 0
-  Allowed events = (i : ℕ) → i < length events → first_of (decode_checks count (get_or events i 0)) ≡ Passed
+  Allowed events = (i : ℕ) → i < length events → first_of (decode_checks count (get_or events i 0)) ≡ Ok tt
 
   none : Allowed []
   none i inside = absurd (omega arith)
@@ -49,7 +49,7 @@ module _ (count : ℕ) where
 
 pub turn_values_are_allowed : (count : ℕ) (places : List Place) (turn : Turn) → is_turn count places turn ≡ true
     → (i : ℕ) → i < length turn.events
-    → first_of (decode_checks count (get_or turn.events i 0)) ≡ Passed
+    → first_of (decode_checks count (get_or turn.events i 0)) ≡ Ok tt
 turn_values_are_allowed count places turn is =
     let place = place_at places turn.chip in
     let below : turn.chip < count = ltb-true _ _ (and_left _ _ is) in

@@ -24,7 +24,7 @@ use Rattle.wellformed.specs.Wellformed.{is_set_up, counters_fit, control_fits}
 use Rattle.wellformed.specs.Wellformed as own
 use Rattle.promises.proofs.Keeping.Lengths.{lengths_kept}
 use Rattle.promises.proofs.Keeping.Values.{unloaded_blind}
-use Rattle.refusal.specs.declared.Verdict.TheVariants.{Passed}
+use Rattle.std.specs.Prelude.{Ok}
 use Rattle.refusal.specs.Checks.{first_of}
 use Rattle.board.specs.declared.Place.{Place}
 use Rattle.board.specs.Place.{place_at, placed}
@@ -94,7 +94,7 @@ alone_seen k world = ap (λ (values : List ℕ). (bus_with 1 world.0.started (on
     twice false = refl
 
 -- the shares of a chip that the count fills are as long as its part says
-module _ (world : World) (enters : first_of (entry_checks world.0 world.1 world.2) ≡ Passed) (k : ℕ) (below : k < world.0.count) where
+module _ (world : World) (enters : first_of (entry_checks world.0 world.1 world.2) ≡ Ok tt) (k : ℕ) (below : k < world.0.count) where
   abbrev chips : List Chip
   chips = world.0.chips
 
@@ -126,13 +126,13 @@ module _ (world : World) (enters : first_of (entry_checks world.0 world.1 world.
   fit : own.well_formed c ≡ true
   fit = formed.fit k (omega (arith, entry.all_placed))
 
-  set_up_lem : board_verdict 1 (places_of (only_chips c)) ≡ Passed
+  set_up_lem : board_verdict 1 (places_of (only_chips c)) ≡ Ok tt
   unfolding board_verdict places_of up_to own.well_formed
   set_up_lem =
       let known : is_set_up c.control ≡ true = and_left (is_set_up c.control) _ (and_left (is_set_up c.control && counters_fit c.control) _ (and_left (control_fits c.control) _ fit)) in
       rw (and_left (is_part c.control.part) _ known, and_right (is_part c.control.part) _ known)
 
-  pub alone_enters : first_of (entry_checks (alone k world).0 (alone k world).1 (alone k world).2) ≡ Passed
+  pub alone_enters : first_of (entry_checks (alone k world).0 (alone k world).1 (alone k world).2) ≡ Ok tt
   unfolding up_to places_of
   alone_enters =
       of_entry (alone k world).0 (alone k world).1 (alone k world).2 (

@@ -18,9 +18,9 @@ use Rattle.chip.specs.declared.Stepped.{Stepped}
 use Rattle.chip.specs.Chip.{quiet}
 use Rattle.chip.specs.Chip as chip
 use Rattle.refusal.specs.declared.Refusal.{Refusal}
-use Rattle.refusal.specs.declared.Verdict.{Verdict}
-use Rattle.refusal.specs.declared.Verdict.TheVariants.{Passed, Refused}
-use Rattle.refusal.specs.Checks.{is_passed}
+use Rattle.refusal.specs.Verdict.{Verdict}
+use Rattle.std.specs.Prelude.{Ok, Err}
+use Rattle.std.specs.Result.{is_ok}
 use Rattle.decode.specs.declared.Addressed.{Addressed}
 use Rattle.decode.specs.Decode.{reaches, event_of}
 use Rattle.decode.specs.Hearing.{clashes_with}
@@ -183,23 +183,23 @@ module _ (k : ℕ) (next next' : Next) (began now : World) (below : k < began.0.
   turn_verdict : line_verdict addressed now ≡ own_verdict
   turn_verdict = verdict_is_its_own now d.entering k below_now word addressed asked_now reached unclashing
 
-  stays_as_it_is : (refusal : Refusal) → line_verdict addressed now ≡ Refused refusal → after_one step now word ≡ now
+  stays_as_it_is : (refusal : Refusal) → line_verdict addressed now ≡ Err refusal → after_one step now word ≡ now
   stays_as_it_is refusal is = ap led_to (step_refused now word addressed d.entering asked_now.0 refusal is)
 
   -- k itself has made its own step
-  turn_taken : line_verdict addressed now ≡ Passed → chip_at (after_one step now word).0.chips k ≡ taken.0.chip
+  turn_taken : line_verdict addressed now ≡ Ok tt → chip_at (after_one step now word).0.chips k ≡ taken.0.chip
   turn_taken is =
       ap (λ (w : World). chip_at w.0.chips 0) (each_moves now word addressed d.entering asked_now.0 is k below_now) ∙ rw reached
 
   -- it may be refused only where the next event may be anything
-  turn_goes_on : ((refusal : Refusal) → own_verdict ≡ Refused refusal → next ≡ next') → Heeds next' taken.0.chip.control.phase → During k next' began (after_one step now word)
+  turn_goes_on : ((refusal : Refusal) → own_verdict ≡ Err refusal → next ≡ next') → Heeds next' taken.0.chip.control.phase → During k next' began (after_one step now word)
   turn_goes_on refusable heeding = go (line_verdict addressed now) refl
     where
       go : (v : Verdict) → line_verdict addressed now ≡ v → During k next' began (after_one step now word)
-      go (Refused refusal) is =
+      go (Err refusal) is =
           subst (λ (n : Next). During k n began (after_one step now word)) (refusable refusal (sym turn_verdict ∙ is))
           (subst (λ (w : World). During k next began w) (sym (stays_as_it_is refusal is)) d)
-      go Passed is =
+      go (Ok tt) is =
           record {
             entering = entering_kept now word d.entering;
             count = count_kept now word addressed d.entering asked_now.0 ∙ d.count;
@@ -215,17 +215,17 @@ module _ (k : ℕ) (next next' : Next) (began now : World) (below : k < began.0.
           }
 
   -- k is at rest where it was so and the event is refused, or its own step leaves it so
-  turn_rests : ((refusal : Refusal) → own_verdict ≡ Refused refusal → is_at_rest (chip_at chips k) ≡ true) → is_at_rest taken.0.chip ≡ true → is_at_rest (chip_at (after_one step now word).0.chips k) ≡ true
+  turn_rests : ((refusal : Refusal) → own_verdict ≡ Err refusal → is_at_rest (chip_at chips k) ≡ true) → is_at_rest taken.0.chip ≡ true → is_at_rest (chip_at (after_one step now word).0.chips k) ≡ true
   turn_rests stays moves = go (line_verdict addressed now) refl
     where
       go : (v : Verdict) → line_verdict addressed now ≡ v → is_at_rest (chip_at (after_one step now word).0.chips k) ≡ true
-      go (Refused refusal) is = subst (λ (w : World). is_at_rest (chip_at w.0.chips k) ≡ true) (sym (stays_as_it_is refusal is)) (stays refusal (sym turn_verdict ∙ is))
-      go Passed is = subst (λ (c : Chip). is_at_rest c ≡ true) (sym (turn_taken is)) moves
+      go (Err refusal) is = subst (λ (w : World). is_at_rest (chip_at w.0.chips k) ≡ true) (sym (stays_as_it_is refusal is)) (stays refusal (sym turn_verdict ∙ is))
+      go (Ok tt) is = subst (λ (c : Chip). is_at_rest c ≡ true) (sym (turn_taken is)) moves
 
   module _ (started : Bool) (usual : (started && is_f8 word) ≡ false → (c : Chip) → says c ≡ Nothing) where
     pub event_goes : (more : List ℕ)
         → (During k next' began (after_one step now word) → Went k (is_start word) more began (after_one step now word))
-        → ((refusal : Refusal) → line_verdict (only addressed) (alone k now) ≡ Refused refusal → next ≡ next')
+        → ((refusal : Refusal) → line_verdict (only addressed) (alone k now) ≡ Err refusal → next ≡ next')
         → Heeds next' (chip.step (chip_at now.0.chips k) now.0.values (alone k now).1 (alone k now).2 (event_of addressed)).0.chip.control.phase
         → Went k started (word ∷ more) began now
     event_goes more later refusable heeding =
@@ -239,14 +239,14 @@ module _ (k : ℕ) (next next' : Next) (began now : World) (below : k < began.0.
     -- one that k does not refuse
     pub calm_goes : (more : List ℕ)
         → (During k next' began (after_one step now word) → Went k (is_start word) more began (after_one step now word))
-        → line_verdict (only addressed) (alone k now) ≡ Passed
+        → line_verdict (only addressed) (alone k now) ≡ Ok tt
         → Heeds next' (chip.step (chip_at now.0.chips k) now.0.values (alone k now).1 (alone k now).2 (event_of addressed)).0.chip.control.phase
         → Went k started (word ∷ more) began now
-    calm_goes more later calm = event_goes more later (λ refusal is. absurd (true≢false (ap is_passed (sym calm ∙ is))))
+    calm_goes more later calm = event_goes more later (λ refusal is. absurd (true≢false (ap is_ok (sym calm ∙ is))))
 
     -- the last one, which leaves k at rest
     pub last_goes : Anything ≡ next'
-        → ((refusal : Refusal) → line_verdict (only addressed) (alone k now) ≡ Refused refusal → (next ≡ next') × (is_at_rest (chip_at now.0.chips k) ≡ true))
+        → ((refusal : Refusal) → line_verdict (only addressed) (alone k now) ≡ Err refusal → (next ≡ next') × (is_at_rest (chip_at now.0.chips k) ≡ true))
         → is_at_rest (chip.step (chip_at now.0.chips k) now.0.values (alone k now).1 (alone k now).2 (event_of addressed)).0.chip ≡ true
         → Went k started (word ∷ []) began now
     unfolding after answers_to

@@ -4,7 +4,7 @@ use Prim.Native.Nat.{ℕ}
 use mathlib.Core.Bool.{Bool, true, false}
 use mathlib.Core.List.{List, [], ◌∷◌}
 use mathlib.Core.Path.{◌≡◌, refl}
-use Rattle.refusal.specs.declared.Verdict.TheVariants.{Passed}
+use Rattle.std.specs.Prelude.{Ok}
 use Rattle.refusal.specs.Checks.{first_of}
 use Rattle.bus.specs.Step.{entry_checks, step}
 use Rattle.bus.proofs.Typed.{OfItsType}
@@ -16,7 +16,7 @@ use Rattle.turns.specs.Undisturbed.{Ready}
 
 pub record Entering (world : World) : Type 0 where
   pub typed : OfItsType world.0
-  pub enters : first_of (entry_checks world.0 world.1 world.2) ≡ Passed
+  pub enters : first_of (entry_checks world.0 world.1 world.2) ≡ Ok tt
 
 pub entering_kept : (world : World) (word : ℕ) → Entering world → Entering (after_one step world word)
 entering_kept world word e =

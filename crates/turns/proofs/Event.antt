@@ -19,8 +19,8 @@ use Rattle.chip.specs.Chip as chip
 use Rattle.chip.specs.declared.event.Event.{Event}
 use Rattle.refusal.specs.declared.Refusal.{Refusal}
 use Rattle.refusal.specs.declared.Refusal.TheVariants.{NotBusy, Clash}
-use Rattle.refusal.specs.declared.Verdict.{Verdict}
-use Rattle.refusal.specs.declared.Verdict.TheVariants.{Passed, Refused}
+use Rattle.refusal.specs.Verdict.{Verdict}
+use Rattle.std.specs.Prelude.{Ok, Err}
 use Rattle.refusal.specs.Refusal.{answer_word}
 use Rattle.refusal.specs.Checks.{first_of}
 use Rattle.board.specs.Place.{placed}
@@ -30,7 +30,6 @@ use Rattle.decode.specs.Decode.{reaches, event_of}
 use Rattle.decode.specs.Hearing.{lacks_cycle, clashes_with}
 use Rattle.lineup.specs.Chips.{chip_at, control_at}
 use Rattle.line.specs.Line.{not_busy, clash, play, chip_loads, values_after, line_reply}
-use Rattle.bus.specs.declared.Stepped.{Stepped}
 use Rattle.bus.specs.Step.{bus_with, remembers, refused, played, step}
 use Rattle.bus.proofs.Entry.{Entered, entered}
 use Rattle.bus.proofs.Typed.{has_four}
@@ -70,7 +69,7 @@ one_iterates f (suc n) k below others a = go (dec_lt k n) (λ (p : k < n). one_i
         ∙ ap (λ (i : ℕ). f i a) last
 
 -- alone, an event to all is refused only where it clashes with the chip
-pub calm_alone : (k : ℕ) (world : World) (event : Event) → clashes_with event (control_at world.0.chips k).phase ≡ false → line_verdict (ToAll event) (alone k world) ≡ Passed
+pub calm_alone : (k : ℕ) (world : World) (event : Event) → clashes_with event (control_at world.0.chips k).phase ≡ false → line_verdict (ToAll event) (alone k world) ≡ Ok tt
 unfolding up_to
 calm_alone k world event calm = to_all_passes (alone k world) event (or-false _ ∙ calm)
 
@@ -120,17 +119,17 @@ module _ (world : World) (e : Entering world) (k : ℕ) (below : k < world.0.cou
   -- and what is the same of both refused, and of both played, is the same of both
   both_step : {A : Type 0} (f g : Made → A)
       → ((refusal : Refusal) → f (refused refusal world.0 world.1 world.2) ≡ g (refused refusal (alone k world).0 (alone k world).1 (alone k world).2))
-      → (line_verdict addressed world ≡ Passed
+      → (line_verdict addressed world ≡ Ok tt
       → f (played addressed world.0 world.1 world.2) ≡ g (played (only addressed) (alone k world).0 (alone k world).1 (alone k world).2))
       → f (stepped step world word) ≡ g (stepped step (alone k world) (renamed word))
   both_step {A} f g refusing playing = go (line_verdict addressed world) refl
     where
       go : (v : Verdict) → line_verdict addressed world ≡ v → f (stepped step world word) ≡ g (stepped step (alone k world) (renamed word))
-      go (Refused refusal) is =
+      go (Err refusal) is =
           ap f (step_refused world word addressed e asked.0 refusal is)
           ∙ refusing refusal
           ∙ sym (ap g (step_refused (alone k world) (renamed word) (only addressed) by_itself asked.1 refusal (sym verdict_is_its_own ∙ is)))
-      go Passed is =
+      go (Ok tt) is =
           ap f (step_plays world word addressed e asked.0 is)
           ∙ playing is
           ∙ sym (ap g (step_plays (alone k world) (renamed word) (only addressed) by_itself asked.1 (sym verdict_is_its_own ∙ is)))

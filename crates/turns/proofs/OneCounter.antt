@@ -20,7 +20,7 @@ use Rattle.wellformed.specs.Wellformed.{control_fits}
 use Rattle.wellformed.specs.Wellformed as one_chip
 use Rattle.wellformed.proofs.Laws.{below_fits}
 use Rattle.wellformed.specs.Beside.{side_by_side}
-use Rattle.refusal.specs.declared.Verdict.TheVariants.{Passed}
+use Rattle.std.specs.Prelude.{Ok}
 use Rattle.refusal.specs.Checks.{first_of}
 use Rattle.board.specs.Place.{nowhere}
 use Rattle.board.proofs.Laws.{placed_most}
@@ -107,7 +107,7 @@ module _ (at : ℕ) where
         (moves_or_stays ChipTyped (chip_at bus.chips i) (λ empty. counter_typed (chip_at bus.chips i) _ (counter_small (chip_at bus.chips i).control.part) own) own)))
         (values_typed typed)
 
-    still_enters : first_of (entry_checks bus array security) ≡ Passed → Entering (moved, array, security)
+    still_enters : first_of (entry_checks bus array security) ≡ Ok tt → Entering (moved, array, security)
     still_enters passed =
         let (formed, array_fits, security_fits) = entry_of bus array security passed in
         let was = formed_of _ _ _ formed in

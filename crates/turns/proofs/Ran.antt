@@ -5,7 +5,7 @@ use mathlib.Core.Bool.{true}
 use mathlib.Core.List.{List, []}
 use mathlib.Core.Path.{◌≡◌, ◌∙◌, sym, ap, subst}
 use lib.ListN.{get_or, take}
-use Rattle.refusal.specs.declared.Verdict.TheVariants.{Passed}
+use Rattle.std.specs.Prelude.{Ok}
 use Rattle.bus.specs.Step.{step}
 use Rattle.bus.proofs.Typed.{OfItsType}
 use Rattle.promises.specs.Playing.{World, answers_to}
@@ -37,7 +37,7 @@ module _ (world : World) (ready : Ready world) (turns : List Turn) (are_turns_ho
 
   -- a call of a list of turns, and a call of a shuffle of it, each with a buffer of its own
   pub shuffled_runs : (others : List Turn) → Shuffle turns others → (one other : RunCall) → Plays one world (events_of turns) → Plays other world (events_of others)
-      → (one.result.verdict ≡ Passed) × (other.result.verdict ≡ Passed) × Alike turns others (run_end one) (run_end other)
+      → (one.result.verdict ≡ Ok tt) × (other.result.verdict ≡ Ok tt) × Alike turns others (run_end one) (run_end other)
   shuffled_runs others shuffle one other plays plays' =
       let ran = back one plays in
       let ran' = back other plays' in
@@ -52,7 +52,7 @@ module _ (world : World) (ready : Ready world) (turns : List Turn) (are_turns_ho
 
   -- a call of a list of turns, and a call of those of chip k where it is alone
   pub runs_as_alone : (k : ℕ) → k < world.0.count → (one by_itself_holds : RunCall) → Plays one world (events_of turns) → Plays by_itself_holds (alone k world) (events_of (own_turns k turns))
-      → (one.result.verdict ≡ Passed) × (by_itself_holds.result.verdict ≡ Passed) × AsAlone k turns (run_end one) (run_end by_itself_holds)
+      → (one.result.verdict ≡ Ok tt) × (by_itself_holds.result.verdict ≡ Ok tt) × AsAlone k turns (run_end one) (run_end by_itself_holds)
   runs_as_alone k below one by_itself_holds plays plays' =
       let ran = back one plays in
       let ran' = returned by_itself_holds (alone k world) (events_of (own_turns k turns)) plays' (alone_enters world ready.enters k below) in

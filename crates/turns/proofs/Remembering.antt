@@ -17,8 +17,8 @@ use Rattle.control.proofs.phase.Laws.{resting_is}
 use Rattle.chip.specs.declared.event.Event.{Event}
 use Rattle.chip.specs.declared.event.Event.TheVariants.{Start}
 use Rattle.refusal.specs.Refusal.{answer_word}
-use Rattle.refusal.specs.declared.Verdict.{Verdict}
-use Rattle.refusal.specs.declared.Verdict.TheVariants.{Passed, Refused}
+use Rattle.refusal.specs.Verdict.{Verdict}
+use Rattle.std.specs.Prelude.{Ok, Err}
 use Rattle.board.specs.declared.Place.{Place}
 use Rattle.board.specs.Place.{placed, place_at}
 use Rattle.decode.specs.declared.Addressed.TheVariants.{ToAll, ToOne}
@@ -73,10 +73,10 @@ module _ (world : World) (started : Bool) (e : Entering world) (es : Entering (w
       where
         go : (event : Event) → names_a_chip event ≡ true → Legal started world.0.count word (ToOne k event) → Legal world.0.started world.0.count word (ToOne k event)
             → (v : Verdict) → line_verdict (ToOne k event) world ≡ v → stepped step (with_start started world) word ≡ restarted started (stepped step world word)
-        go event named legal legal' (Refused refusal) says =
+        go event named legal legal' (Err refusal) says =
             step_refused (with_start started world) word (ToOne k event) es legal refusal says
             ∙ sym (ap (restarted started) (step_refused world word (ToOne k event) e legal' refusal says))
-        go event named legal legal' Passed says =
+        go event named legal legal' (Ok tt) says =
             step_plays (with_start started world) word (ToOne k event) es legal says
             ∙ ap (λ (now : Bool). restarted now (played (ToOne k event) world.0 world.1 world.2)) (named_remembers event started named)
             ∙ sym (ap (restarted started) (step_plays world word (ToOne k event) e legal' says))

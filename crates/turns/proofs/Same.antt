@@ -12,7 +12,7 @@ use Rattle.base.specs.Fold.{up_to}
 use Rattle.base.specs.Store.{span}
 use Rattle.load.specs.Load.{no_values}
 use Rattle.parts.specs.declared.part.Geometry.{Geometry}
-use Rattle.refusal.specs.declared.Verdict.TheVariants.{Passed}
+use Rattle.std.specs.Prelude.{Ok}
 use Rattle.refusal.specs.Checks.{first_of}
 use Rattle.board.specs.Place.{placed}
 use Rattle.board.specs.Shares.{figures_at}
@@ -47,8 +47,8 @@ abbrev held : (Geometry → ℕ) → Bus → ℕ → List ℕ → List ℕ
 held size bus i store = span (start_of (share size bus) i) (share size bus i) store
 
 pub same_world : (one other : World) → length one.0.chips ≡ 4 → length other.0.chips ≡ 4 → one.0.count ≡ other.0.count
-    → first_of (entry_checks one.0 one.1 one.2) ≡ Passed
-    → first_of (entry_checks other.0 other.1 other.2) ≡ Passed
+    → first_of (entry_checks one.0 one.1 one.2) ≡ Ok tt
+    → first_of (entry_checks other.0 other.1 other.2) ≡ Ok tt
     → ((i : ℕ) → one.0.count ≤ i → chip_at one.0.chips i ≡ chip_at other.0.chips i)
     → ((k : ℕ) → k < one.0.count → alone k one ≡ alone k other)
     → any_loading one.0 ≡ false

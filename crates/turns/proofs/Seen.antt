@@ -16,8 +16,8 @@ use Rattle.control.specs.declared.Said.TheVariants.{Nothing}
 use Rattle.chip.specs.declared.Chip.{Chip}
 use Rattle.chip.specs.declared.Stepped as chips_own
 use Rattle.chip.specs.Chip as chip
-use Rattle.refusal.specs.declared.Verdict.{Verdict}
-use Rattle.refusal.specs.declared.Verdict.TheVariants.{Passed, Refused}
+use Rattle.refusal.specs.Verdict.{Verdict}
+use Rattle.std.specs.Prelude.{Ok, Err}
 use Rattle.refusal.specs.Refusal.{answer_word}
 use Rattle.refusal.specs.Checks.{first_of}
 use Rattle.board.specs.declared.Place.{Place}
@@ -27,7 +27,6 @@ use Rattle.decode.specs.Decode.{addressed_of, reaches, event_of}
 use Rattle.lineup.specs.Chips.{no_chip, chip_at, places_of}
 use Rattle.line.specs.Line.{OnLine, chips_of, array_share, security_share, landed, chip_takes, play, chip_loads, values_after}
 use Rattle.bus.specs.declared.Bus.{Bus}
-use Rattle.bus.specs.declared.Stepped.{Stepped}
 use Rattle.bus.specs.Step.{event_checks, bus_with, remembers, done, played, step_by, event, step}
 use Rattle.bus.proofs.Entry.{Entered, entered}
 use Rattle.bus.proofs.Typed.{count_fits, has_four, every_typed, ValuesTyped, values_typed, bus_typed}
@@ -146,12 +145,12 @@ module _ (world : World) (e : Entering world) where
 
     unseen_by : (verdict : Verdict) → shown (step_by verdict (holding no_values) world.1 world.2 word) ≡ shown (step_by verdict bus world.1 world.2 word)
     unfolding played
-    unseen_by Passed =
+    unseen_by (Ok tt) =
         ap (λ (now : OnLine). shown (done (event_of addressed) bus.count bus.started (now, values_after addressed bus.count bus.chips no_values)))
         (blind_play addressed bus.count bus.chips world.1 world.2 empty no_values bus.values)
         ∙ ap (λ (values : List ℕ). (answer_word (done (event_of addressed) bus.count bus.started (line, values)).0.answer, (bus_with bus.count (remembers (event_of addressed) bus.started) (chips_of line) values, line.1, line.2)))
         (values_shown (any_below (λ (i : ℕ). is_loading (chip_at (chips_of line) i)) (placed bus.count)) refl)
-    unseen_by (Refused refusal) = rw none
+    unseen_by (Err refusal) = rw none
 
     unseen : shown (step (holding no_values) world.1 world.2 word) ≡ shown (step bus world.1 world.2 word)
     unfolding event

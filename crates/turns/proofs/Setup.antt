@@ -16,9 +16,10 @@ use Rattle.control.specs.declared.phase.Phase.TheVariants.{Standby}
 use Rattle.chip.specs.declared.Chip.{Chip}
 use Rattle.chip.specs.Chip.{fresh}
 use Rattle.chip.proofs.Typed.{ChipTyped}
-use Rattle.refusal.specs.declared.Verdict.{Verdict}
-use Rattle.refusal.specs.declared.Verdict.TheVariants.{Passed, Refused}
-use Rattle.refusal.specs.Checks.{first_of, is_passed}
+use Rattle.refusal.specs.Verdict.{Verdict}
+use Rattle.std.specs.Prelude.{Ok, Err}
+use Rattle.refusal.specs.Checks.{first_of}
+use Rattle.std.specs.Result.{is_ok}
 use Rattle.board.specs.declared.Place.{Place}
 use Rattle.board.specs.Place.{place_at, placed}
 use Rattle.board.proofs.Laws.{placed_most}
@@ -36,7 +37,7 @@ use Rattle.turns.proofs.Typed.{standby_typed, fresh_typed, unloaded_typed, empty
 fresh_rests : (part strap : ℕ) → is_at_rest (fresh part strap) ≡ true
 fresh_rests part strap = refl
 
-pub set_up_is_ready : (count : ℕ) (places : List Place) (array security : List ℕ) → (set_up count places array security).verdict ≡ Passed
+pub set_up_is_ready : (count : ℕ) (places : List Place) (array security : List ℕ) → (set_up count places array security).verdict ≡ Ok tt
     → Ready ((set_up count places array security).bus, array, security)
 unfolding set_up is_idle
 set_up_is_ready count places array security passed =
@@ -50,10 +51,10 @@ set_up_is_ready count places array security passed =
         ap is_at_rest (filled_at fresh_at (replicate 4 empty_chip) (placed count) i no_chip (omega (arith, placed_most count)) below)
         ∙ fresh_rests (place_at places i).part (place_at places i).strap
 
-    go : (verdict : Verdict) → (set_up_by verdict count places).verdict ≡ Passed
+    go : (verdict : Verdict) → (set_up_by verdict count places).verdict ≡ Ok tt
         → let bus = (set_up_by verdict count places).bus in all_below (λ (i : ℕ). is_at_rest (chip_at bus.chips i)) (placed bus.count) ≡ true
-    go Passed is = all_each (λ (i : ℕ). is_at_rest (chip_at (fresh_chips places (placed count)) i)) (placed count) rests
-    go (Refused refusal) is = absurd (false≢true (ap is_passed is))
+    go (Ok tt) is = all_each (λ (i : ℕ). is_at_rest (chip_at (fresh_chips places (placed count)) i)) (placed count) rests
+    go (Err refusal) is = absurd (false≢true (ap is_ok is))
 
 -- and of its type, whatever it says, where its count and its places are values of theirs
 pub set_up_is_typed : (count : ℕ) (places : List Place) (array security : List ℕ) → count < 2 ^ 64 → ((i : ℕ) → ((place_at places i).part < 256) × ((place_at places i).strap < 256))
@@ -71,11 +72,11 @@ set_up_is_typed count places array security fits bytes = go (first_of (set_up_ch
     none = (empty_typed, (empty_typed, (empty_typed, (empty_typed, tt))))
 
     go : (verdict : Verdict) → OfItsType (set_up_by verdict count places).bus
-    go Passed =
+    go (Ok tt) =
         bus_typed count false (fresh_chips places (placed count)) no_values fits (filled_length fresh_at (replicate 4 empty_chip) (placed count))
         (up_keeps _ (Every ChipTyped) (λ i chips so_far. every_set ChipTyped chips i (fresh_at i) so_far (typed_at i)) (placed count) (replicate 4 empty_chip) none)
         no_values_typed
-    go (Refused refusal) = bus_typed 0 false (replicate 4 empty_chip) no_values (lit< tt) refl none no_values_typed
+    go (Err refusal) = bus_typed 0 false (replicate 4 empty_chip) no_values (lit< tt) refl none no_values_typed
 
 -- the same of a call of `Bus::set_up`
 module _ (call : SetUpCall) where
@@ -85,7 +86,7 @@ module _ (call : SetUpCall) where
   abbrev security : List ℕ
   security = call.arguments.1.1.1.0.now
 
-  pub a_set_up_is_ready : call.result.verdict ≡ Passed → OfItsType call.result.bus × Ready (call.result.bus, array, security)
+  pub a_set_up_is_ready : call.result.verdict ≡ Ok tt → OfItsType call.result.bus × Ready (call.result.bus, array, security)
   a_set_up_is_ready passed = (
     set_up_typed call,
     subst (λ (up : SetUp). Ready (up.bus, array, security)) (sym call.ensured)

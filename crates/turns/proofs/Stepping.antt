@@ -9,8 +9,8 @@ use Rattle.chip.specs.declared.Chip.{Chip}
 use Rattle.chip.specs.declared.event.Event.{Event}
 use Rattle.refusal.specs.declared.Refusal.{Refusal}
 use Rattle.refusal.specs.declared.Refusal.TheVariants.{Clash}
-use Rattle.refusal.specs.declared.Verdict.{Verdict}
-use Rattle.refusal.specs.declared.Verdict.TheVariants.{Passed, Refused}
+use Rattle.refusal.specs.Verdict.{Verdict}
+use Rattle.std.specs.Prelude.{Ok, Err}
 use Rattle.refusal.specs.Checks.{first_of}
 use Rattle.decode.specs.declared.Addressed.{Addressed}
 use Rattle.decode.specs.declared.Addressed.TheVariants.{ToAll}
@@ -34,8 +34,8 @@ abbrev pub line_verdict : Addressed → World → Verdict
 line_verdict addressed world = first_of (line_checks addressed world.0.count world.0.chips)
 
 -- of an event to all it can only say 8
-pub to_all_passes : (world : World) (event : Event) → clash event world.0.count world.0.chips ≡ false → line_verdict (ToAll event) world ≡ Passed
-to_all_passes world event calm = ap (λ (clashes : Bool). cond clashes (Refused Clash) Passed) calm
+pub to_all_passes : (world : World) (event : Event) → clash event world.0.count world.0.chips ≡ false → line_verdict (ToAll event) world ≡ Ok tt
+to_all_passes world event calm = ap (λ (clashes : Bool). cond clashes (Err Clash) (Ok tt)) calm
 
 module _ (world : World) (word : ℕ) (addressed : Addressed) (e : Entering world) (legal : Legal world.0.started world.0.count word addressed) where
   abbrev count : ℕ
@@ -56,19 +56,19 @@ module _ (world : World) (word : ℕ) (addressed : Addressed) (e : Entering worl
       step_is_event world.0 world.1 world.2 word e.enters
       ∙ ap (λ (v : Verdict). step_by v world.0 world.1 world.2 word) (verdict ∙ is)
 
-  pub step_refused : (refusal : Refusal) → line_verdict addressed world ≡ Refused refusal → stepped step world word ≡ refused refusal world.0 world.1 world.2
-  step_refused refusal is = step_by_lem (Refused refusal) is
+  pub step_refused : (refusal : Refusal) → line_verdict addressed world ≡ Err refusal → stepped step world word ≡ refused refusal world.0 world.1 world.2
+  step_refused refusal is = step_by_lem (Err refusal) is
 
-  pub step_plays : line_verdict addressed world ≡ Passed → stepped step world word ≡ played addressed world.0 world.1 world.2
-  step_plays is = step_by_lem Passed is ∙ ap (λ (o : Addressed). played o world.0 world.1 world.2) legal.2
+  pub step_plays : line_verdict addressed world ≡ Ok tt → stepped step world word ≡ played addressed world.0 world.1 world.2
+  step_plays is = step_by_lem (Ok tt) is ∙ ap (λ (o : Addressed). played o world.0 world.1 world.2) legal.2
 
   -- what holds of a world as it is, and as it is played, holds after a step
   led : (P : World → Type 0) → P world → P (led_to (played addressed world.0 world.1 world.2)) → P (after_one step world word)
   led P stays moves = go (line_verdict addressed world) refl
     where
       go : (v : Verdict) → line_verdict addressed world ≡ v → P (after_one step world word)
-      go (Refused refusal) is = rw (step_refused refusal is) stays
-      go Passed is = rw (step_plays is) moves
+      go (Err refusal) is = rw (step_refused refusal is) stays
+      go (Ok tt) is = rw (step_plays is) moves
 
   kept : Kept world.0 (stepped step world word)
   kept = step_keeps world.0 world.1 world.2 word e.typed e.enters
@@ -86,7 +86,7 @@ module _ (world : World) (word : ℕ) (addressed : Addressed) (e : Entering worl
       (the_rest_stays addressed count chips world.0.values world.1 world.2 (has_four e.typed) entry.array_fits entry.security_fits i (omega (arith, entry.all_placed)))
 
   -- played, each chip has made its own step
-  pub each_moves : line_verdict addressed world ≡ Passed → (i : ℕ) → i < world.0.count
+  pub each_moves : line_verdict addressed world ≡ Ok tt → (i : ℕ) → i < world.0.count
       → let mine = own addressed world.0.chips world.0.values world.1 world.2 i in alone i (after_one step world word) ≡ (only_bus (remembers (event_of addressed) world.0.started) mine.0.chip (values_after addressed world.0.count world.0.chips world.0.values), mine.1, mine.2)
   unfolding played
   each_moves is i below =

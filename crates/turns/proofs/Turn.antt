@@ -6,7 +6,7 @@ use mathlib.Core.List.{List, [], ◌∷◌}
 use mathlib.Core.Path.{◌≡◌, ◌∙◌, refl, sym, ap}
 use borrow.Author.Tests.{eq-eqb}
 use Rattle.chip.specs.declared.event.Event.TheVariants.{Start, Stop, Sent}
-use Rattle.refusal.specs.Checks.{is_passed}
+use Rattle.std.specs.Result.{is_ok}
 use Rattle.board.specs.declared.Place.{Place}
 use Rattle.decode.specs.declared.Addressed.{Addressed}
 use Rattle.decode.specs.declared.Addressed.TheVariants.{ToAll, ToOne}
@@ -43,7 +43,7 @@ module _ (k : ℕ) (place : Place) (began : World) (b : Others k place began) wh
       last_goes k Anything Anything began now b.below d word (ToAll Stop) (stop_asks false now.0.count word is) refl refl silent (sits_stop k place began b) started
       (λ none c. refl)
       refl
-      (λ refusal is. absurd (true≢false (ap is_passed (sym (calm_alone k now Stop refl) ∙ is))))
+      (λ refusal is. absurd (true≢false (ap is_ok (sym (calm_alone k now Stop refl) ∙ is))))
       (stop_rests _ _ _ _ ((formed_of now.0.count now.0.started now.0.chips entry.formed).fit k (omega (arith, b.below, d.count, entry.all_placed))))
 
   -- an event by itself that names k: refused it leaves k as it was

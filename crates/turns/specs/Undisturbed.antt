@@ -5,7 +5,7 @@ use Rattle.base.specs.Word.{word_of}
 use Rattle.parts.specs.Part.{geometry_of}
 use Rattle.control.specs.declared.Control.{Control}
 use Rattle.control.specs.Phase.{is_busy}
-use Rattle.refusal.specs.declared.Verdict.TheVariants.{Passed}
+use Rattle.std.specs.Prelude.{Ok}
 use Rattle.refusal.specs.Checks.{first_of}
 use Rattle.board.specs.Place.{placed}
 use Rattle.board.specs.Stores.{array_of, security_of}
@@ -23,7 +23,7 @@ use Rattle.turns.specs.Playing.{Ending, ending}
 
 -- turns may begin: the bus is well formed and idle, and its stores are of the right length
 pub record Ready (world : World) : Type 0 where
-  pub enters : first_of (entry_checks (bus_of world) (array_of world) (security_of world)) ≡ Passed
+  pub enters : first_of (entry_checks (bus_of world) (array_of world) (security_of world)) ≡ Ok tt
   pub idle : is_idle (bus_of world) ≡ true
 
 -- a list of turns of its chips

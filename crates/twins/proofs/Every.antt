@@ -20,7 +20,7 @@ use Rattle.control.specs.Phase.{is_busy}
 use Rattle.chip.specs.declared.Chip.{Chip}
 use Rattle.chip.proofs.Typed.{ChipTyped}
 use Rattle.wellformed.specs.Wellformed.{counter_fits, phase_fits, control_fits, only_data_loads, next_runs_on, span_fits, well_formed}
-use Rattle.refusal.specs.declared.Verdict.TheVariants.{Passed}
+use Rattle.std.specs.Prelude.{Ok}
 use Rattle.board.specs.Board.{board_verdict}
 use Rattle.board.specs.declared.shares.Region.TheVariants.{Array}
 use Rattle.board.specs.Stores.{array_of, security_of}
@@ -108,7 +108,7 @@ module _ (old : World) (line : LineOfOne old) (older : geometry_of (only_chip ol
   twin_typed = let held = chip_bytes (only_chip old) (chip_typed line.typed 0 (lit< tt)) in typed_of new twin_well (lit< tt, (lit< tt, held.1.1))
 
   -- and of its line
-  set_up_lem : board_verdict 1 (places_of (only_chips new)) ≡ Passed
+  set_up_lem : board_verdict 1 (places_of (only_chips new)) ≡ Ok tt
   unfolding board_verdict places_of up_to geometry_of
   set_up_lem = rw strap_below
 

@@ -22,9 +22,8 @@ use Rattle.chip.specs.declared.event.Event.{Event}
 use Rattle.chip.specs.declared.event.Event.TheVariants.{Stop, Sent, PowerUp}
 use Rattle.chip.specs.Chip as chip
 use Rattle.wellformed.specs.Wellformed.{heeds_start}
-use Rattle.refusal.specs.declared.Verdict.{Verdict}
-use Rattle.refusal.specs.declared.Verdict.TheVariants.{Passed, Refused}
-use Rattle.refusal.specs.declared.Answer.TheVariants as answer
+use Rattle.refusal.specs.Verdict.{Verdict}
+use Rattle.std.specs.Prelude.{Ok, Err}
 use Rattle.refusal.specs.Refusal.{answer_word}
 use Rattle.refusal.specs.Checks.{first_of}
 use Rattle.refusal.proofs.Checks.{passed_first}
@@ -41,7 +40,7 @@ use Rattle.decode.specs.Hearing.{clashes_with}
 use Rattle.lineup.specs.Chips.{places_of}
 use Rattle.line.specs.Line.{line_checks, array_share, heard, line_reply, values_after}
 use Rattle.bus.specs.declared.Bus.{Bus}
-use Rattle.bus.specs.Step.{entry_checks, event_checks, step_checks, remembers, refused, played, step_by, event, step}
+use Rattle.bus.specs.Step.{entry_checks, event_checks, step_checks, remembers, played, step_by, event, step}
 use Rattle.bus.proofs.Entry.{Entered, entered}
 use Rattle.promises.specs.Own.{own}
 use Rattle.promises.specs.Playing.{World, Made, bus_of, stepped, led_to, after_one, answer_to, after, answers_to}
@@ -135,11 +134,11 @@ module _ (world : World) (line : LineOfOne world) where
         let fits = (entered made.0.bus made.1 made.2 kept.enters).array_fits in
         whole Array made.1 (fits ∙ rw (kept.places, kept.count))
 
-  module _ (word : ℕ) (passes : first_of (event_checks bus word) ≡ Passed) where
+  module _ (word : ℕ) (passes : first_of (event_checks bus word) ≡ Ok tt) where
     plays : made word ≡ played (addressed word) bus (array_of world) (security_of world)
-    plays = step_by_lem word Passed passes
+    plays = step_by_lem word (Ok tt) passes
 
-    all_pass : first_of (step_checks bus (array_of world) (security_of world) word) ≡ Passed
+    all_pass : first_of (step_checks bus (array_of world) (security_of world) word) ≡ Ok tt
     all_pass = passed_first (entry_checks bus (array_of world) (security_of world)) (event_checks bus word) line.enters ∙ passes
 
     first : NamesFirst (addressed word)
@@ -159,7 +158,7 @@ module _ (world : World) (line : LineOfOne world) where
       array_is : (made word).1 ≡ taken.1
       values_is : (made word).0.bus.values ≡ chip.values_after (only_chip world) (event_of (addressed word)) bus.values
       started_is : (made word).0.bus.started ≡ remembers (event_of (addressed word)) bus.started
-      answer_is : (made word).0.answer ≡ answer.Done (line_reply (event_of (addressed word)) (heard Nothing taken.0.said))
+      answer_is : (made word).0.answer ≡ Ok (line_reply (event_of (addressed word)) (heard Nothing taken.0.said))
 
     moved : Moved
     unfolding played up_to values_after
@@ -258,17 +257,17 @@ module _ (world : World) (line : LineOfOne world) (first : Bool) (over : (bus_of
   was_started other now = go (first_of (event_checks (bus_of world) word)) refl
     where
       go : (verdict : Verdict) → first_of (event_checks (bus_of world) word) ≡ verdict → started ≡ true
-      go Passed passes =
+      go (Ok tt) passes =
           only_start (bus_of world).count started word (not-false _ (none_holds (event_checks (bus_of world) word) passes).1.0) other
           (sym (moved world line word passes).started_is ∙ now)
-      go (Refused refusal) is = sym (ap (λ (next : Made). next.0.bus.started) (step_by_lem world line word (Refused refusal) is)) ∙ now
+      go (Err refusal) is = sym (ap (λ (next : Made). next.0.bus.started) (step_by_lem world line word (Err refusal) is)) ∙ now
 
   -- an event to all that no chip clashes with is played
-  forgets : (event : Event) → first_of (decode_checks 1 word) ≡ Passed → addressed_of started word ≡ ToAll event
+  forgets : (event : Event) → first_of (decode_checks 1 word) ≡ Ok tt → addressed_of started word ≡ ToAll event
       → clashes_with event (only_chip world).control.phase ≡ false → remembers event started ≡ false → later ≡ false
   unfolding up_to
   forgets event decodes asks calm gone =
-      let passes : first_of (event_checks (bus_of world) word) ≡ Passed =
+      let passes : first_of (event_checks (bus_of world) word) ≡ Ok tt =
       rw line.one (passed_first (decode_checks 1 word) (line_checks (addressed_of started word) 1 (bus_of world).chips) decodes ∙ rw (asks, calm)) in
       (moved world line word passes).started_is ∙ rw asks gone
 
@@ -303,8 +302,8 @@ module _ {old new : World} (t : TwinLines old new) (word : ℕ) (asks : AsksArra
   asks_of started = event_of (addressed_of started word)
 
   -- one that is played
-  module _ (passes : first_of (event_checks (bus_of old) word) ≡ Passed) where
-    passes_too : first_of (event_checks (bus_of new) word) ≡ Passed
+  module _ (passes : first_of (event_checks (bus_of old) word) ≡ Ok tt) where
+    passes_too : first_of (event_checks (bus_of new) word) ≡ Ok tt
     passes_too = sym (checks_same t word) ∙ passes
 
     one : Moved old t.old_line word passes
@@ -329,7 +328,7 @@ module _ {old new : World} (t : TwinLines old new) (word : ℕ) (asks : AsksArra
     answers_same =
         ap answer_word
         (one.answer_is
-        ∙ ap₂ (λ (started : Bool) (said : Said). answer.Done (line_reply (asks_of started) (heard Nothing said))) t.started both.said
+        ∙ ap₂ (λ (started : Bool) (said : Said). Ok (line_reply (asks_of started) (heard Nothing said))) t.started both.said
         ∙ sym other.answer_is)
 
     twins_still : TwinLines (after_one step old word) (after_one step new word)
@@ -348,9 +347,9 @@ module _ {old new : World} (t : TwinLines old new) (word : ℕ) (asks : AsksArra
     where
       go : (verdict : Verdict) → first_of (event_checks (bus_of old) word) ≡ verdict
           → (answer_to step old word ≡ answer_to step new word) × TwinLines (after_one step old word) (after_one step new word)
-      go Passed passes = (answers_same passes, twins_still passes)
-      go (Refused refusal) is =
-          rw (step_by_lem old t.old_line word (Refused refusal) is, step_by_lem new t.new_line word (Refused refusal) (sym (checks_same t word) ∙ is)) (refl, t)
+      go (Ok tt) passes = (answers_same passes, twins_still passes)
+      go (Err refusal) is =
+          rw (step_by_lem old t.old_line word (Err refusal) is, step_by_lem new t.new_line word (Err refusal) (sym (checks_same t word) ∙ is)) (refl, t)
 
 -- and a list of them
 as_twins : (events : List ℕ) (first : Bool) {old new : World} → TwinLines old new → ((bus_of old).started ≡ true → first ≡ true) → only_array first events ≡ true

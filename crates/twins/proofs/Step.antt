@@ -12,7 +12,7 @@ use Rattle.base.proofs.logic.Laws.{and_left, or_left, or_right, either}
 use Rattle.parts.specs.Part.{geometry_24csm01, geometry_at24cm01, geometry_of}
 use Rattle.parts.specs.Address.{answers}
 use Rattle.load.specs.Span.{is_empty, dropped}
-use Rattle.load.specs.Load.{holds, load_of, store_page}
+use Rattle.load.specs.Load.{load_of, store_page}
 use Rattle.control.specs.declared.Control.{Control}
 use Rattle.control.specs.declared.Answered.{Answered}
 use Rattle.control.specs.declared.Said.TheVariants.{Byte}

@@ -16,7 +16,7 @@ use Rattle.chip.specs.declared.Chip.{Chip}
 use Rattle.chip.specs.declared.event.Event.TheVariants.{Start, Stop, Sent}
 use Rattle.chip.specs.Chip as chip
 use Rattle.wellformed.specs.Wellformed as one_chip
-use Rattle.refusal.specs.declared.Verdict.TheVariants.{Passed}
+use Rattle.std.specs.Prelude.{Ok}
 use Rattle.refusal.specs.Checks.{first_of}
 use Rattle.board.specs.Board.{board_verdict}
 use Rattle.board.specs.Shares.{wrong_length}
@@ -97,7 +97,7 @@ module _ (part config0 config1 registers : ℕ) (fits : part < 256) (fits0 : con
 
   enters : well_formed 1 false (chips part config0 config1) ≡ true → wrong_length 1 (places_of (chips part config0 config1)) 131072 registers ≡ false
       → (array security : List ℕ) → length array ≡ 131072 → length security ≡ registers
-      → first_of (entry_checks world.0 array security) ≡ Passed
+      → first_of (entry_checks world.0 array security) ≡ Ok tt
   enters formed right array security long short = rw (long, short, formed, right)
 
   of_one : well_formed 1 false (chips part config0 config1) ≡ true → wrong_length 1 (places_of (chips part config0 config1)) 131072 registers ≡ false

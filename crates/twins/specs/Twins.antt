@@ -11,7 +11,7 @@ use Rattle.chip.specs.declared.Chip.{Chip}
 use Rattle.chip.specs.declared.Stepped.{Stepped}
 use Rattle.chip.specs.declared.event.Event.{Event}
 use Rattle.chip.specs.declared.event.Event.TheVariants.{Start, Stop, Sent, Read, Wp, CycleOver, PowerUp}
-use Rattle.refusal.specs.declared.Verdict.TheVariants.{Passed}
+use Rattle.std.specs.Prelude.{Ok}
 use Rattle.refusal.specs.Checks.{first_of}
 use Rattle.board.specs.Stores.{array_of, security_of}
 use Rattle.lineup.specs.Chips.{chip_at}
@@ -64,7 +64,7 @@ only_chip world = chip_at (bus_of world).chips 0
 -- a line of one chip that passes the checks at entry; the bus is a value of its type
 pub record LineOfOne (world : World) : Type 0 where
   pub typed : OfItsType (bus_of world)
-  pub enters : first_of (entry_checks (bus_of world) (array_of world) (security_of world)) ≡ Passed
+  pub enters : first_of (entry_checks (bus_of world) (array_of world) (security_of world)) ≡ Ok tt
   pub one : (bus_of world).count ≡ 1
 
 -- two such lines, with twins on them: both remember a Start or none, the values of a load are the same, and so are the arrays

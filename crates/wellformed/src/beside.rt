@@ -2,7 +2,6 @@
 ghost use Rattle.std.specs.Prelude.{◌≡◌};
 ghost use Rattle.wellformed.specs.Beside.{is_active, waits_too, side_by_side};
 
-use base::logic::{and, or};
 use control::Control;
 use control::phase::{awaits_address, is_awaiting, is_sending, is_taking};
 
@@ -10,29 +9,19 @@ use control::phase::{awaits_address, is_awaiting, is_sending, is_taking};
 fn is_active(c: Control) -> bool
     ensures { result ≡ is_active c }
 {
-    let phase = c.phase;
-    let takes = and(is_taking(phase), !is_awaiting(phase));
-    or(c.chosen, or(is_sending(phase), takes))
+    c.chosen || is_sending(c.phase) || (is_taking(c.phase) && !is_awaiting(c.phase))
 }
 
 // While another chip awaits a byte, an active one is only chosen and awaits an address byte too.
 fn waits_too(c: Control, other: Control) -> bool
     ensures { result ≡ waits_too c other }
 {
-    let phase = c.phase;
-    let awaited = other.phase;
-    or(
-        !and(is_active(c), is_awaiting(awaited)),
-        awaits_address(phase),
-    )
+    !(is_active(c) && is_awaiting(other.phase)) || awaits_address(c.phase)
 }
 
 // At most one chip in all is active, and while the other awaits a byte it waits too.
 pub fn side_by_side(c: Control, d: Control) -> bool
     ensures { result ≡ side_by_side c d }
 {
-    and(
-        !and(is_active(c), is_active(d)),
-        and(waits_too(c, d), waits_too(d, c)),
-    )
+    !(is_active(c) && is_active(d)) && waits_too(c, d) && waits_too(d, c)
 }

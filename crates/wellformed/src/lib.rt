@@ -4,9 +4,8 @@
 pub mod beside;
 
 ghost use Rattle.std.specs.Prelude.{◌≡◌};
-ghost use Rattle.wellformed.specs.Wellformed.{is_set_up, counter_fits, counters_fit, source_fits, data_fits, word_fits, phase_fits, unused_bits_clear, busy_not_chosen, only_able_chosen, control_fits, next_data_runs_on, next_runs_on, span_fits, well_formed, heeds_start};
+ghost use Rattle.wellformed.specs.Wellformed.{is_set_up, counter_fits, counters_fit, source_fits, data_fits, word_fits, phase_fits, unused_bits_clear, busy_not_chosen, only_able_chosen, control_fits, next_runs_on, span_fits, well_formed, heeds_start};
 
-use base::logic::{and, or};
 use chip::Chip;
 use control::Control;
 use control::phase::{
@@ -26,10 +25,8 @@ fn source_fits(g: Geometry, source: Source) -> bool
 {
     match source {
         Source::FromArray => true,
-        Source::FromSecurity => g.registers,
-        Source::FromConfiguration(_) => g.registers,
-        Source::FromId(place) => and(g.identifies, place < ID_BYTES),
-        Source::FromNothing => g.registers,
+        Source::FromId(place) => g.identifies && place < ID_BYTES,
+        Source::FromSecurity | Source::FromConfiguration(_) | Source::FromNothing => g.registers,
     }
 }
 
@@ -37,33 +34,20 @@ fn source_fits(g: Geometry, source: Source) -> bool
 fn data_fits(g: Geometry, kind: Data) -> bool
     ensures { result ≡ data_fits g kind }
 {
-    match kind {
-        Data::ToArray => true,
-        Data::ToSecurity => g.registers,
-        Data::ToConfiguration(_) => g.registers,
-        Data::ToLock(_) => g.registers,
-        Data::ToNowhere => g.registers,
-    }
+    matches!(kind, Data::ToArray) || g.registers
 }
 
 fn word_fits(g: Geometry, word: Word) -> bool
     ensures { result ≡ word_fits g word }
 {
-    match word {
-        Word::ArrayFirst(_) => true,
-        Word::ArraySecond(_, _) => true,
-        Word::RegisterFirst => g.registers,
-        Word::RegisterSecond(_) => g.registers,
-    }
+    matches!(word, Word::ArrayFirst(_) | Word::ArraySecond(..)) || g.registers
 }
 
 fn phase_fits(g: Geometry, phase: Phase) -> bool
     ensures { result ≡ phase_fits g phase }
 {
     match phase {
-        Phase::Standby => true,
-        Phase::Busy => true,
-        Phase::AwaitsAddress => true,
+        Phase::Standby | Phase::Busy | Phase::AwaitsAddress => true,
         Phase::AwaitsChoice => g.identifies,
         Phase::AwaitsWord(word) => word_fits(g, word),
         Phase::TakesData(kind) => data_fits(g, kind),
@@ -74,90 +58,66 @@ fn phase_fits(g: Geometry, phase: Phase) -> bool
 fn is_set_up(c: Control) -> bool
     ensures { result ≡ is_set_up c }
 {
-    let straps = geometry_of(c.part).straps;
-    and(is_part(c.part), c.strap < straps)
+    is_part(c.part) && c.strap < geometry_of(c.part).straps
 }
 
 // A counter that has no region is 0 (request E7).
 fn counter_fits(size: u32, at: u32) -> bool
     ensures { result ≡ counter_fits size at }
 {
-    if size == 0 {
-        return at == 0;
-    }
-    at < size
+    if size == 0 { at == 0 } else { at < size }
 }
 
 fn counters_fit(c: Control) -> bool
     ensures { result ≡ counters_fit c }
 {
     let g = geometry_of(c.part);
-    and(
-        counter_fits(g.array, c.arraycounter),
-        counter_fits(g.security, c.securitycounter),
-    )
+    counter_fits(g.array, c.arraycounter) && counter_fits(g.security, c.securitycounter)
 }
 
 // Of a part without registers every bit is unused, and so is the lock of its ID page (request E7).
 fn unused_bits_clear(c: Control) -> bool
     ensures { result ≡ unused_bits_clear c }
 {
-    let registers = geometry_of(c.part).registers;
-    if registers {
-        return c.config0 < CONFIG0_END;
+    if geometry_of(c.part).registers {
+        c.config0 < CONFIG0_END
+    } else {
+        c.config0 == 0 && c.config1 == 0 && !c.idlocked
     }
-    and(and(c.config0 == 0, c.config1 == 0), !c.idlocked)
 }
 
 fn busy_not_chosen(c: Control) -> bool
     ensures { result ≡ busy_not_chosen c }
 {
-    let phase = c.phase;
-    !and(is_busy(phase), c.chosen)
+    !(is_busy(c.phase) && c.chosen)
 }
 
 // A chip that does not identify itself is not chosen (request E7).
 fn only_able_chosen(c: Control) -> bool
     ensures { result ≡ only_able_chosen c }
 {
-    let identifies = geometry_of(c.part).identifies;
-    or(!c.chosen, identifies)
+    !c.chosen || geometry_of(c.part).identifies
 }
 
 fn control_fits(c: Control) -> bool
     ensures { result ≡ control_fits c }
 {
-    let phase = c.phase;
-    let g = geometry_of(c.part);
-    let held = and(unused_bits_clear(c), phase_fits(g, phase));
-    let choice = and(busy_not_chosen(c), only_able_chosen(c));
-    and(and(is_set_up(c), counters_fit(c)), and(held, choice))
+    is_set_up(c)
+        && counters_fit(c)
+        && unused_bits_clear(c)
+        && phase_fits(geometry_of(c.part), c.phase)
+        && busy_not_chosen(c)
+        && only_able_chosen(c)
 }
 
-// Where the next byte of these data would be loaded, it runs on from those that came.
-fn next_data_runs_on(kind: Data, c: Control, span: Span) -> bool
-    ensures { result ≡ next_data_runs_on kind c span }
-{
-    match kind {
-        Data::ToArray => span.runs_on(c.part, c.arraycounter),
-        Data::ToSecurity => span.runs_on(c.part, c.securitycounter),
-        Data::ToConfiguration(_) => true,
-        Data::ToLock(_) => true,
-        Data::ToNowhere => true,
-    }
-}
-
+// Where the next byte would be loaded, it runs on from those that came.
 fn next_runs_on(phase: Phase, c: Control, span: Span) -> bool
     ensures { result ≡ next_runs_on phase c span }
 {
     match phase {
-        Phase::Standby => true,
-        Phase::Busy => true,
-        Phase::AwaitsAddress => true,
-        Phase::AwaitsChoice => true,
-        Phase::AwaitsWord(_) => true,
-        Phase::TakesData(kind) => next_data_runs_on(kind, c, span),
-        Phase::SendsByte(_) => true,
+        Phase::TakesData(Data::ToArray) => span.runs_on(c.part, c.arraycounter),
+        Phase::TakesData(Data::ToSecurity) => span.runs_on(c.part, c.securitycounter),
+        _ => true,
     }
 }
 
@@ -165,30 +125,25 @@ fn next_runs_on(phase: Phase, c: Control, span: Span) -> bool
 fn span_fits(c: Control, span: Span) -> bool
     ensures { result ≡ span_fits c span }
 {
-    let phase = c.phase;
-    let held = or(span.is_empty(), takes_data(phase));
-    and(
-        span.inside_page(c.part),
-        and(held, next_runs_on(phase, c, span)),
-    )
+    span.inside_page(c.part)
+        && (span.is_empty() || takes_data(c.phase))
+        && next_runs_on(c.phase, c, span)
 }
 
 #[tactic(auto, unfolding(crate::specs::Wellformed::well_formed))]
 pub fn well_formed(chip: Chip) -> bool
     ensures { result ≡ well_formed chip }
 {
-    let control = chip.control;
-    let span = chip.span;
-    and(control_fits(control), span_fits(control, span))
+    control_fits(chip.control) && span_fits(chip.control, chip.span)
 }
 
 // While a Start is remembered a chip takes an address byte or nothing, and only then it awaits one (request E8).
 pub fn heeds_start(started: bool, phase: Phase) -> bool
     ensures { result ≡ heeds_start started phase }
 {
-    let waits = awaits_address(phase);
     if started {
-        return and(!is_sending(phase), or(!is_taking(phase), waits));
+        !is_sending(phase) && (!is_taking(phase) || awaits_address(phase))
+    } else {
+        !awaits_address(phase)
     }
-    !waits
 }

@@ -2,7 +2,7 @@
 #![tactic(auto)]
 
 ghost use Rattle.std.specs.Prelude.{◌≡◌};
-ghost use Rattle.wordaddress.specs.WordAddress.{register_of, is_lock, take_array_second, take_register_first, take_register_second, take_security, take_lock, take_word};
+ghost use Rattle.wordaddress.specs.WordAddress.{register_of, take_array_second, take_register_first, take_register_second, take_security, take_lock, take_word};
 
 use control::phase::{Came, Data, Phase, Shown, Word};
 use control::{Answered, Control};
@@ -10,7 +10,7 @@ use parts::part::geometry_of;
 use regions::counter::counter_in;
 
 // What the first word-address byte after a 1011 address byte names (Table 3-3).
-#[derive(Clone, Copy)]
+#[derive(Clone, Copy, Debug, PartialEq, Eq)]
 pub enum Register {
     Security,
     Configuration,
@@ -28,24 +28,14 @@ pub fn register_of(first: u8) -> Register
 {
     if first / 4 % 4 == REGISTER {
         if first / 128 == 0 {
-            return Register::Security;
+            Register::Security
+        } else {
+            Register::Configuration
         }
-        return Register::Configuration;
-    }
-    if first % 16 == LOCK {
-        return Register::Lock;
-    }
-    Register::Nowhere
-}
-
-fn is_lock(register: Register) -> bool
-    ensures { result ≡ is_lock register }
-{
-    match register {
-        Register::Security => false,
-        Register::Configuration => false,
-        Register::Lock => true,
-        Register::Nowhere => false,
+    } else if first % 16 == LOCK {
+        Register::Lock
+    } else {
+        Register::Nowhere
     }
 }
 
@@ -53,59 +43,55 @@ fn is_lock(register: Register) -> bool
 fn take_array_second(a16: bool, first: u8, c: Control, byte: u8) -> Answered
     ensures { result ≡ take_array_second a16 first c byte }
 {
-    let size = geometry_of(c.part).array;
-    let at = counter_in(size, a16, first, byte);
-    let set = c.arraycounter_at(at);
-    set.acked(Phase::TakesData(Data::ToArray))
+    let at = counter_in(geometry_of(c.part).array, a16, first, byte);
+    c.arraycounter_at(at).acked(Phase::TakesData(Data::ToArray))
 }
 
 // The lock command is not acknowledged once the ID page is locked (sheets 10.4.2).
 fn take_register_first(c: Control, byte: u8) -> Answered
     ensures { result ≡ take_register_first c byte }
 {
-    if base::logic::and(c.idlocked, is_lock(register_of(byte))) {
+    if c.idlocked && register_of(byte) == Register::Lock {
         c.silent(Phase::Standby)
     } else {
         c.acked(Phase::AwaitsWord(Word::RegisterSecond(byte)))
     }
 }
 
-// Only a security address sets the security counter. A16 means nothing to it.
+// Only a security address sets the security counter. A16 means nothing to it. No twin of `take_array_second`: it also says what a 1011 read shows.
 fn take_security(first: u8, c: Control, byte: u8) -> Answered
     ensures { result ≡ take_security first c byte }
 {
-    let size = geometry_of(c.part).security;
-    let at = counter_in(size, false, first, byte);
-    let set = c.securitycounter_at(at).showing(Shown::ShowsSecurity);
-    set.acked(Phase::TakesData(Data::ToSecurity))
+    let at = counter_in(geometry_of(c.part).security, false, first, byte);
+    c.securitycounter_at(at)
+        .showing(Shown::ShowsSecurity)
+        .acked(Phase::TakesData(Data::ToSecurity))
 }
 
 fn take_lock(c: Control) -> Answered
     ensures { result ≡ take_lock c }
 {
     if c.idlocked {
-        return c.silent(Phase::Standby);
+        c.silent(Phase::Standby)
+    } else {
+        c.showing(Shown::ShowsNothing)
+            .acked(Phase::TakesData(Data::ToLock(false)))
     }
-    let named = c.showing(Shown::ShowsNothing);
-    named.acked(Phase::TakesData(Data::ToLock(false)))
 }
 
 // The word address is whole: from now on a 1011 read shows what it names.
 fn take_register_second(first: u8, c: Control, byte: u8) -> Answered
     ensures { result ≡ take_register_second first c byte }
 {
-    let register = register_of(first);
-    match register {
+    match register_of(first) {
         Register::Security => take_security(first, c, byte),
-        Register::Configuration => {
-            let named = c.showing(Shown::ShowsConfiguration);
-            named.acked(Phase::TakesData(Data::ToConfiguration(Came::Zero)))
-        }
+        Register::Configuration => c
+            .showing(Shown::ShowsConfiguration)
+            .acked(Phase::TakesData(Data::ToConfiguration(Came::Zero))),
         Register::Lock => take_lock(c),
-        Register::Nowhere => {
-            let named = c.showing(Shown::ShowsNothing);
-            named.acked(Phase::TakesData(Data::ToNowhere))
-        }
+        Register::Nowhere => c
+            .showing(Shown::ShowsNothing)
+            .acked(Phase::TakesData(Data::ToNowhere)),
     }
 }
 

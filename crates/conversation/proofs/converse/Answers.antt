@@ -1,10 +1,7 @@
 -- `begins` at the first frame, `goes` from one to the next, `ends` at the last (`Standing.antt`). The reader's text stays the text on the tape.
 use mathlib.Core.Path.{◌∙◌, ap}
-use mathlib.Core.List.{List}
-use Prim.Native.Nat.{ℕ}
 use Rattle.bus.proofs.Typed.{OfItsType}
 use Rattle.reader.specs.declared.Reader.{Reader}
-use Rattle.conversation.specs.Talk as talk
 use Rattle.conversation.proofs.Standing.{begins, goes, ends}
 use Rattle.conversation.proofs.converse.Goals as goal
 
@@ -19,19 +16,18 @@ loop-pending-init c =
 pub loop-pending-preserved : goal.loop-pending-preserved
 loop-pending-preserved c =
     let l = c.loop-pending in
-    let place = rw l.invariant.1 at (ap (λ (r : Reader). r.at) c.next-frame.ensures.moved) in (
-      (goes _ _ _ _ _ l.invariant.0 c.loop-pending-test.true c.step_in_place-answer.ensures place c.next_pending-pending.ensures).0,
-      ap (λ (r : Reader). r.text.now) c.next-frame.ensures.moved ∙ l.invariant.1,
+    let place = rw l.invariant.1 at (ap (λ (r : Reader). r.at) c.next-in-Some.ensures.moved) in (
+      (goes _ _ _ _ _ l.invariant.0 c.in-Some.is c.step_in_place-answer.ensures place c.next_pending-pending.ensures).0,
+      ap (λ (r : Reader). r.text.now) c.next-in-Some.ensures.moved ∙ l.invariant.1,
     )
 
 pub loop-pending-smaller : goal.loop-pending-smaller
 loop-pending-smaller c =
     let l = c.loop-pending in
-    let place = rw l.invariant.1 at (ap (λ (r : Reader). r.at) c.next-frame.ensures.moved) in
-    (goes _ _ _ _ _ l.invariant.0 c.loop-pending-test.true c.step_in_place-answer.ensures place c.next_pending-pending.ensures).1
+    let place = rw l.invariant.1 at (ap (λ (r : Reader). r.at) c.next-in-Some.ensures.moved) in
+    (goes _ _ _ _ _ l.invariant.0 c.in-Some.is c.step_in_place-answer.ensures place c.next_pending-pending.ensures).1
 
 pub returns : goal.returns
 returns c =
     let a = c.args in
-    ends _ _ _ _ _ c.loop-pending.invariant.0 c.loop-pending-test.false c.heard_of.ensures
-    ∙ ap (λ (text : List ℕ). talk.converse text a.bus.now a.array.now a.security.now a.said.now) c.text_on-text.ensures.shows
+    ends _ _ _ _ _ c.loop-pending.invariant.0 c.in_default.is c.from.ensures

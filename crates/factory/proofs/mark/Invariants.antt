@@ -1,16 +1,9 @@
 -- The store so far is the definition's after i bytes.
-use Rattle.std.proofs.Common.{◌≡◌, ℕ, ◌+◌, ◌-◌, ◌≤◌, List, length}
+use Rattle.std.proofs.Common.{◌≡◌, ℕ, ◌+◌, List}
 use Rattle.std.proofs.Math.ListN.{set}
 use Rattle.base.specs.Fold.{up_to}
 use Rattle.factory.proofs.mark.Given as goal
 
 abbrev pub invariant-loop-i : goal.invariant-loop-i
 invariant-loop-i l =
-    record {
-      so_far : l.security ≡ up_to (λ (j : ℕ) (so_far : List ℕ). set so_far (l.at + j) l.byte) l.i l.fn.security;
-      as_long : length l.security ≡ length l.fn.security;
-      in_number : l.i ≤ 16;
-    }
-
-abbrev pub decreases-loop-i : goal.decreases-loop-i
-decreases-loop-i l = 16 - l.i
+    l.security ≡ up_to (λ (j : ℕ) (so_far : List ℕ). set so_far (l.at + j) l.byte) l.i l.fn.security

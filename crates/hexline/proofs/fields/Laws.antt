@@ -8,15 +8,17 @@ use mathlib.Core.Bool.{Bool, true, false, cond, ◌&&◌}
 use mathlib.Core.List.{List, ◌++◌, append_assoc}
 use mathlib.Core.Path.{◌≡◌, ◌∙◌, refl, sym, ap}
 use lib.Dec.{eqb}
-use lib.ListN.{length, take, drop, get_or, set, length-set, get_or-eq_default}
-use lib.Seq.{get_or-set_same, get_or-set_other, take_all, drop-drop, paste, paste-zero, paste-suc}
+use lib.ListN.{length, take, drop, get_or, set, length-set, length-drop, get_or-eq_default}
+use lib.Seq.{get_or-drop, get_or-set_same, get_or-set_other, take_all, drop-drop, paste, paste-zero, paste-suc}
 use borrow.Author.Tests.{ltb-true, eqb-true}
+use Rattle.std.specs.List.{list_all}
 use Rattle.base.specs.Fold.{up_to}
 use Rattle.base.specs.Store.{patched}
-use Rattle.base.proofs.Fold.{up_keeps}
+use Rattle.base.proofs.Fold.{up_keeps, up_same, all_below-list}
 use Rattle.base.proofs.logic.Laws.{and_right}
 use Rattle.transcript.specs.Frame.{lf}
-use Rattle.hexline.specs.Fields.{colon, cr, char_at, byte_at, count_in, data_at, end_at, end_size, line_size, all_digits, is_framed, first_address, put_data}
+use Rattle.hexline.specs.Digit.{is_hex_digit}
+use Rattle.hexline.specs.Fields.{colon, cr, char_at, byte_at, bytes_in, count_in, data_at, end_at, end_size, line_size, all_digits, is_framed, first_address, put_data}
 use Rattle.hexline.proofs.digit.Laws.{value_fits}
 
 pub byte_fits : (rest : List ℕ) (i : ℕ) → byte_at rest i < 256
@@ -52,6 +54,17 @@ end_inside rest some = go (eqb (char_at rest (end_at rest)) lf) refl (eqb (char_
     go false is true also more =
         omega (arith, inside rest (end_at rest + 1) lf (omega arith) (eqb-true _ _ (and_right (eqb (char_at rest (end_at rest)) cr) _ also)))
     go false is false also more = absurd (omega arith)
+
+-- where the line ends in the text, its digits are the definition's
+pub digits_all : (rest : List ℕ) → 0 < end_size rest → {end : ℕ} → end ≡ end_at rest → list_all is_hex_digit (take (end - 1) (drop 1 rest)) ≡ all_digits rest
+digits_all rest some {end} is =
+    let n : ℕ = 2 * bytes_in rest in
+    let count : end - 1 ≡ n = omega (arith, is) in
+    let fits : n ≤ length (drop 1 rest) = omega (arith, end_inside rest some, length-drop 1 rest) in
+    ap (λ (m : ℕ). list_all is_hex_digit (take m (drop 1 rest))) count
+    ∙ all_below-list is_hex_digit (drop 1 rest) 0 n fits
+    ∙ up_same _ (λ (i : ℕ) (ok : Bool). is_hex_digit (char_at rest (1 + i)) && ok) n
+    (λ i ok below. ap (λ (byte : ℕ). is_hex_digit byte && ok) (get_or-drop 1 rest i 0)) true
 
 pub framed_fits : (rest : List ℕ) → is_framed rest ≡ true → line_size rest ≤ length rest
 unfolding is_framed

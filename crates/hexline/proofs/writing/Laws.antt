@@ -7,6 +7,7 @@ use mathlib.Core.List.{List, [], ◌∷◌, ◌++◌, append_assoc}
 use mathlib.Core.Path.{◌≡◌, ◌∙◌, refl, sym, ap}
 use lib.ListN.{length, take, get_or, set, length-append}
 use lib.Seq.{take-suc, length-take-le}
+use Rattle.std.specs.Prelude.{fold}
 use Rattle.base.specs.Store.{patched}
 use Rattle.base.proofs.Store.{patched_one, patched_next, patched_length}
 use Rattle.print.specs.Print.{byte_text}
@@ -26,13 +27,15 @@ pub sum_with_append : (xs ys : List ℕ) (sum : ℕ) → sum_with (xs ++ ys) sum
 sum_with_append [] ys sum = refl
 sum_with_append (x ∷ xs) ys sum = sum_with_append xs ys ((sum + x) % 256)
 
+-- the sum is a fold from the left
+pub sum_with_fold : (bytes : List ℕ) (sum : ℕ) → fold (λ (so_far byte : ℕ). (so_far + byte) % 256) sum bytes ≡ sum_with bytes sum
+sum_with_fold [] sum = refl
+sum_with_fold (x ∷ xs) sum = sum_with_fold xs ((sum + x) % 256)
+
 module _ (bytes : List ℕ) (i : ℕ) (inside : i < length bytes) where
   -- one byte more
   more : take (i + 1) bytes ≡ take i bytes ++ (get_or bytes i 0 ∷ [])
   more = rw add-one (take-suc bytes i 0 inside)
-
-  pub sum_with_more : (sum : ℕ) → (sum_with (take i bytes) sum + get_or bytes i 0) % 256 ≡ sum_with (take (i + 1) bytes) sum
-  sum_with_more sum = rw more (sym (sum_with_append (take i bytes) (get_or bytes i 0 ∷ []) sum))
 
   pub bytes_text_more : (at : ℕ) (text : List ℕ) → at + 2 * length bytes ≤ length text
       → patched (at + 2 * i) (byte_text (get_or bytes i 0)) (patched at (bytes_text (take i bytes)) text) ≡ patched at (bytes_text (take (i + 1) bytes)) text

@@ -3,29 +3,32 @@
 use Prim.Native.Nat.{ℕ, zero, suc, ◌+◌, ◌-◌, ◌≤◌, ◌<◌}
 use native.Mathlib.Decide.{dec_le}
 use native.Mathlib.Omega.{arith}
-use mathlib.Core.Bool.{Bool, true, false, cond, not, false≢true}
+use mathlib.Core.Bool.{Bool, true, false, cond, not, false≢true, true≢false}
 use mathlib.Core.List.{List, ◌++◌}
 use mathlib.Core.Path.{◌≡◌, ◌∙◌, refl, sym, ap, subst}
+use lib.Dec.{eqb}
 use lib.ListN.{length, take, drop, length-drop}
 use borrow.Author.Tests.{ltb-true, not-false}
 use Rattle.base.specs.Fold.{up_to}
 use Rattle.base.specs.Store.{patched}
 use Rattle.base.proofs.Fold.{up_none, up_keeps, up_more}
 use Rattle.base.proofs.logic.Laws.{and_right, or_none, either}
-use Rattle.refusal.specs.declared.Verdict.{Verdict}
-use Rattle.refusal.specs.declared.Verdict.TheVariants.{Passed, Refused}
+use Rattle.refusal.specs.declared.Refusal.{Refusal}
+use Rattle.refusal.specs.Verdict.{Verdict}
+use Rattle.std.specs.Prelude.{Ok, Err}
 use Rattle.refusal.specs.Refusal.{status_of}
-use Rattle.refusal.specs.Checks.{first_of, is_passed}
+use Rattle.refusal.specs.Checks.{first_of}
+use Rattle.std.specs.Result.{is_ok}
 use Rattle.refusal.proofs.Checks.{passed_exactly_when}
 use Rattle.board.specs.declared.Place.{Place}
 use Rattle.board.specs.Shares.{array_start}
-use Rattle.hexline.specs.Fields.{is_framed, line_size}
+use Rattle.hexline.specs.Fields.{end_kind, kind_in, is_framed, line_size}
 use Rattle.hexline.specs.Checks.{record_checks, bad_length}
 use Rattle.hexline.proofs.fields.Laws.{framed_fits, put_data_length}
-use Rattle.image.specs.declared.loading.Loaded.{Loaded}
+use Rattle.image.specs.declared.loading.Progress.TheVariants.{Open, Ended}
 use Rattle.image.specs.declared.loading.Reading.{Reading}
-use Rattle.image.specs.Reading.{begun, reads_on, rest_at, past, read_by, verdict_at, next_reading, read_on, reading_after, scanned}
-use Rattle.image.specs.Load.{in_place}
+use Rattle.image.specs.Reading.{is_open, said_by, begun, reads_on, rest_at, past, read_by, verdict_at, next_reading, read_on, reading_after, scanned}
+use Rattle.image.specs.Load.{Loaded, in_place}
 use Rattle.image.specs.Storing.{Storing, is_stored, next_storing, store_on, storing_after, stored}
 
 -- the same step again and again: once it changes nothing, it never does
@@ -51,9 +54,23 @@ module _ {A : Type 0} (f : A → A) (a : A) where
       go (no p) = again_same m n idle_m (omega arith)
 
 -- a record that passes is framed
-passed_framed : (size upper : ℕ) (rest : List ℕ) → first_of (record_checks size upper rest) ≡ Passed → is_framed rest ≡ true
+passed_framed : (size upper : ℕ) (rest : List ℕ) → first_of (record_checks size upper rest) ≡ Ok tt → is_framed rest ≡ true
 passed_framed size upper rest passes =
     not-false _ (or_none (not (is_framed rest)) (bad_length rest) ((passed_exactly_when (record_checks size upper rest)).0 (ap status_of passes)).0).0
+
+-- what is not done is refused
+pub refused : (verdict : Verdict) → is_ok verdict ≡ false → (refusal : Refusal) × (verdict ≡ Err refusal)
+refused (Ok tt) is = absurd (true≢false is)
+refused (Err refusal) is = (refusal, refl)
+
+-- past a record that passes a reading goes on unless that was the end, and nothing is said against it
+pub open_by : (end : Bool) → is_open (cond end Ended Open) ≡ not end
+open_by true = refl
+open_by false = refl
+
+pub passes_by : (end : Bool) → said_by (cond end Ended Open) ≡ Ok tt
+passes_by true = refl
+passes_by false = refl
 
 -- the place lies in the text, and no record is shorter than a byte
 pub record Sane (text : List ℕ) (reading : Reading) : Type 0 where
@@ -63,7 +80,7 @@ pub record Sane (text : List ℕ) (reading : Reading) : Type 0 where
 module _ (text : List ℕ) (reading : Reading) where
   -- where it goes on, text is left
   pub reads_inside : reads_on text reading ≡ true → reading.at < length text
-  reads_inside on = ltb-true _ _ (and_right (not reading.ended) _ (and_right (is_passed reading.verdict) _ on))
+  reads_inside on = ltb-true _ _ (and_right (is_open reading.progress) _ on)
 
 module _ (size : ℕ) (text : List ℕ) where
   pub read_idle : (reading : Reading) → reads_on text reading ≡ false → read_on size text reading ≡ reading
@@ -71,27 +88,27 @@ module _ (size : ℕ) (text : List ℕ) where
   read_idle reading off = rw off
 
   -- a record that passes ends in the text
-  pub past_fits : (reading : Reading) → verdict_at size text reading ≡ Passed → reading.at ≤ length text
+  pub past_fits : (reading : Reading) → verdict_at size text reading ≡ Ok tt → reading.at ≤ length text
       → reading.at + line_size (rest_at text reading) ≤ length text
   past_fits reading passes inside =
       omega (arith, framed_fits (rest_at text reading) (passed_framed size reading.upper (rest_at text reading) passes), length-drop reading.at text)
 
   -- a reading goes on from a record that passes, and says what was said of one that does not
-  pub next_passes : (reading : Reading) → is_passed (next_reading size text reading).verdict ≡ is_passed (verdict_at size text reading)
+  pub next_passes : (reading : Reading) → is_ok (said_by (next_reading size text reading).progress) ≡ is_ok (verdict_at size text reading)
   unfolding next_reading
   next_passes reading = go (verdict_at size text reading)
     where
-      go : (verdict : Verdict) → is_passed (read_by verdict (rest_at text reading) reading).verdict ≡ is_passed verdict
-      go Passed = refl
-      go (Refused refusal) = refl
+      go : (verdict : Verdict) → is_ok (said_by (read_by verdict (rest_at text reading) reading).progress) ≡ is_ok verdict
+      go (Ok tt) = ap is_ok (passes_by (eqb (kind_in (rest_at text reading)) end_kind))
+      go (Err refusal) = refl
 
   pub next_sane : (reading : Reading) → Sane text reading → Sane text (next_reading size text reading)
   unfolding next_reading
   next_sane reading sane = go (verdict_at size text reading) refl
     where
       go : (verdict : Verdict) → verdict_at size text reading ≡ verdict → Sane text (read_by verdict (rest_at text reading) reading)
-      go Passed passes = record { inside = past_fits reading passes sane.inside; fewer = omega (arith, sane.fewer) }
-      go (Refused refusal) refused = record { inside = sane.inside; fewer = sane.fewer }
+      go (Ok tt) passes = record { inside = past_fits reading passes sane.inside; fewer = omega (arith, sane.fewer) }
+      go (Err refusal) refused = record { inside = sane.inside; fewer = sane.fewer }
 
   read_sane : (reading : Reading) → Sane text reading → Sane text (read_on size text reading)
   unfolding read_on
@@ -111,8 +128,8 @@ module _ (size : ℕ) (text : List ℕ) where
     where
       go : (was : Bool) → reads_on text reading ≡ was → (verdict : Verdict) → reads_on text (cond was (read_by verdict (rest_at text reading) reading) reading) ≡ true
           → (was ≡ true) × ((cond was (read_by verdict (rest_at text reading) reading) reading).lines ≡ reading.lines + 1)
-      go true is Passed on = (refl, refl)
-      go true is (Refused refusal) on = absurd (false≢true on)
+      go true is (Ok tt) on = (refl, refl)
+      go true is (Err refusal) on = absurd (false≢true on)
       go false is verdict on = absurd (false≢true (sym is ∙ on))
 
   pub lines_read : (n : ℕ) → reads_on text (reading_after size text n) ≡ true → (reading_after size text n).lines ≡ n
@@ -159,10 +176,10 @@ module _ (size : ℕ) (text : List ℕ) where
   left_next reading inside = go (verdict_at size text reading)
     where
       go : (verdict : Verdict) → left text (read_by verdict (rest_at text reading) reading) < length text - reading.at
-      go Passed =
+      go (Ok tt) =
           either (λ (m : ℕ). m < length text - reading.at) (reads_on text (past (rest_at text reading) reading))
           (length text - (reading.at + line_size (rest_at text reading))) 0 (omega arith) (omega arith)
-      go (Refused refusal) = omega arith
+      go (Err refusal) = omega arith
 
   pub next_less : (reading : Reading) {next : Reading} → reads_on text reading ≡ true → next ≡ next_reading size text reading
       → left text next < left text reading

@@ -14,7 +14,7 @@ use Rattle.base.specs.Word.{high_of, low_of}
 use Rattle.base.proofs.Store.{span_length, patched_none, patched_length, patched_next}
 use Rattle.refusal.specs.declared.Refusal.{Refusal}
 use Rattle.refusal.specs.declared.Refusal.TheVariants.{ShortText}
-use Rattle.refusal.specs.declared.Verdict.TheVariants.{Passed}
+use Rattle.std.specs.Prelude.{Ok}
 use Rattle.refusal.specs.Refusal.{status_of}
 use Rattle.refusal.specs.Checks.{first_of}
 use Rattle.refusal.proofs.Checks.{passed_exactly_when, passed_first, passed_before}
@@ -28,7 +28,7 @@ use Rattle.hexline.specs.Fields.{data_kind, end_kind, upper_kind}
 use Rattle.hexline.specs.Writing.{record_text, record_size, put_record}
 use Rattle.hexline.proofs.Back.{record_length}
 use Rattle.image.specs.Rows.{row_start, upper_of, upper_changes, upper_text, bare_row, row_text, rows_text, end_text, saved_text, saved_size}
-use Rattle.image.specs.Save.{short_text, save_checks, put_row, put_rows, save_share, save}
+use Rattle.image.specs.Save.{short_text, save_checks, put_row, put_rows, put_text, save_share, save}
 
 -- a record that has room is written
 pub put_fits : (kind address : ℕ) (content text : List ℕ) (at : ℕ) → length content ≤ 255 → at + record_size (length content) ≤ length text
@@ -155,7 +155,7 @@ module _ (share : List ℕ) where
         rw (rows_next rows) (both long written)
 
     pub end_more : {at : ℕ} {text after : List ℕ} → (at, text) ≡ put_rows share buffer → after ≡ put_record end_kind 0 [] text at
-        → (record { verdict = Passed; written = at + 12 }, after) ≡ save_share share buffer
+        → (at + 12, after) ≡ put_text share buffer
     end_more {at} {text} {after} so_far is =
         let rows = rows_text share (length share / 16) in
         let place : at ≡ length rows = ap first_of_lem so_far in
@@ -165,7 +165,7 @@ module _ (share : List ℕ) where
         let put : after ≡ patched at end_text text = is ∙ put_fits end_kind 0 [] text at (omega arith) (omega arith) in
         let long : at + 12 ≡ length (rows ++ end_text) = omega (arith, length-append rows end_text) in
         let written : after ≡ patched 0 (rows ++ end_text) buffer = patched_next 0 at rows end_text buffer (omega arith) (ap second_of so_far) put (omega arith) in
-        rw saved_is (ap (λ (p : ℕ × List ℕ). (record { verdict = Passed; written = p.0 }, p.1)) (both long written))
+        rw saved_is (both long written)
 
   -- the whole text is as long as saving says
   pub saved_length : length share / 16 * 16 ≡ length share → length (saved_text share) ≡ saved_size (length share)
@@ -181,11 +181,11 @@ module _ (share : List ℕ) where
 
 -- a chip that passes the checks of saving has its share in the array store, and the buffer takes the text of that
 module _ (bus : Bus) (array security : List ℕ) (k : ℕ) where
-  module _ (buffer : List ℕ) (passes : first_of (save_checks bus array security k buffer) ≡ Passed) where
+  module _ (buffer : List ℕ) (passes : first_of (save_checks bus array security k buffer) ≡ Ok tt) where
     abbrev last : List (Bool × Refusal)
     last = (short_text (places_of bus.chips) k buffer, ShortText) ∷ []
 
-    chip_passes : first_of (chip_checks bus array security k) ≡ Passed
+    chip_passes : first_of (chip_checks bus array security k) ≡ Ok tt
     chip_passes = passed_before (chip_checks bus array security k) last passes
 
     pub save_named : Named bus array security k

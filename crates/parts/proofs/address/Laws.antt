@@ -11,7 +11,8 @@ use lib.Dec.{ltb}
 use borrow.Author.Tests.{lt-ltb, ltb-true, eq-eqb, eqb-true}
 use Rattle.base.proofs.logic.Laws.{and_left, and_right, and_both}
 use Rattle.parts.specs.declared.part.Geometry.{Geometry}
-use Rattle.parts.specs.Part.{geometry_24csm01, geometry_24cs32, geometry_at24cm01, Sound}
+use Rattle.parts.specs.Part.{geometry_24csm01, geometry_24cs32, geometry_at24cm01, geometry_of, Sound}
+use Rattle.parts.proofs.part.Laws.{sound_of}
 use Rattle.parts.specs.Address.{codes_of, answers, first_code, share_address}
 
 module _ (g : Geometry) (sound : Sound g) where
@@ -75,3 +76,12 @@ module _ (g : Geometry) (strap : ℕ) (h : Geometry) (beside : ℕ) (sound_g : S
         let behind : first_code h beside < first_code g strap + codes_of g = omega arith in
         and_both _ _ (lt-ltb _ _ before) (lt-ltb _ _ behind),
   )
+
+-- every number's part shares its codes out over some straps, so that a chip answers some
+pub straps_of_part : (part : ℕ) → 0 < (geometry_of part).straps
+straps_of_part part = (sound_of part).straps_some
+
+pub codes_of_part : (part : ℕ) → 0 < codes_of (geometry_of part)
+codes_of_part part = codes_some (geometry_of part) (sound_of part)
+
+pub ruleset of_codes = (straps_of_part, codes_of_part)

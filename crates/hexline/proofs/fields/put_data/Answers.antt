@@ -10,7 +10,7 @@ use Rattle.hexline.proofs.fields.Laws.{first_fits}
 use Rattle.hexline.proofs.fields.put_data.Goals as goal
 
 pub loop-i-init : goal.loop-i-init
-loop-i-init c = (up_none _ _, refl, omega arith)
+loop-i-init c = (up_none _ _, refl)
 
 pub overflow_add-first : goal.overflow_add-first
 overflow_add-first c =
@@ -25,9 +25,8 @@ loop-i-preserved c =
           ∙ ap (λ (first : ℕ). set so_far (first + i) c.byte_at.result) c.first_address-first.ensures
           ∙ ap (set so_far _) c.byte_at.ensures),
       c.put.auto.share ∙ c.loop-i.invariant.1,
-      omega arith,
     )
 
 pub returns : goal.returns
 unfolding put_data
-returns c = up_end _ _ (omega (arith, c.count_in-n.ensures)) c.loop-i.invariant.0
+returns c = up_end _ _ (omega (arith, c.count_in-i-end.ensures)) c.loop-i.invariant.0

@@ -1,6 +1,5 @@
 -- After i bytes the text of the first i stands there; one byte more is written right behind it.
 use Prim.Native.Nat.{◌+◌, ◌*◌}
-use native.Mathlib.Omega.{arith}
 use mathlib.Core.Path.{◌∙◌, ap}
 use lib.ListN.{get_or}
 use Rattle.base.specs.Store.{patched}
@@ -15,5 +14,4 @@ loop-i-preserved c =
       c.put_byte.ensures ∙ ap (patched (a.at + 2 * so_far.i) (byte_text (get_or a.bytes.now so_far.i 0))) so_far.invariant.0
           ∙ bytes_text_more _ _ c.loop-i-test.true _ _ c.requires,
       c.put_byte.auto.text ∙ so_far.invariant.1,
-      omega arith,
     )

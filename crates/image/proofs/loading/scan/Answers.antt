@@ -1,12 +1,10 @@
 -- Each iteration reads one record more, and less is left; where reading stops, it is the definition's last.
 use mathlib.Core.Path.{◌∙◌, sym}
-use Rattle.image.proofs.loading.Laws.{reads_inside, Reached, left, begun_reached, next_reached, reached_sane, next_less, reached_end}
-use borrow.Author.Rules.{rules}
-use borrow.Author.Rules.{rules}
+use Rattle.image.proofs.loading.Laws.{reads_inside, begun_reached, next_reached, reached_sane, next_less, reached_end}
 use Rattle.image.proofs.loading.scan.Goals as goal
 
 pub loop-reading-init : goal.loop-reading-init
-loop-reading-init c = rw c.begun-reading.ensures (begun_reached _ _)
+loop-reading-init c = begun_reached _ _
 
 pub next_reading-reading-requires : goal.next_reading-reading-requires
 next_reading-reading-requires c =

@@ -1,6 +1,5 @@
 -- Each iteration reads one record more, and less is left; where reading stops, it is the definition's last.
-use mathlib.Core.Path.{◌∙◌, sym}
-use Rattle.image.proofs.loading.Laws.{reads_inside, Reached, left, begun_reached, next_reached, reached_sane, next_less, reached_end}
+use Rattle.image.proofs.loading.Laws.{Reached, left}
 use Rattle.image.proofs.loading.scan.Given as goal
 
 abbrev pub invariant-loop-reading : goal.invariant-loop-reading

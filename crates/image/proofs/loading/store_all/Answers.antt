@@ -1,13 +1,11 @@
 -- As `scan`, with the share beside the reading.
 use mathlib.Core.Path.{◌∙◌, sym}
 use lib.ListN.{length}
-use Rattle.image.proofs.loading.Laws.{reads_inside, reached_sane, left, StoredTo, begun_stored, next_stored, stored_to_length, stored_to_reached, next_stored_less, stored_to_end}
-use borrow.Author.Rules.{rules}
-use borrow.Author.Rules.{rules}
+use Rattle.image.proofs.loading.Laws.{reads_inside, reached_sane, begun_stored, next_stored, stored_to_reached, next_stored_less, stored_to_end}
 use Rattle.image.proofs.loading.store_all.Goals as goal
 
 pub loop-reading-init : goal.loop-reading-init
-loop-reading-init c = rw c.begun-reading.ensures (begun_stored _ _)
+loop-reading-init c = begun_stored _ _
 
 pub next_storing-reading-requires : goal.next_storing-reading-requires
 next_storing-reading-requires c =

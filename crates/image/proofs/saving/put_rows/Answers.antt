@@ -1,15 +1,14 @@
 -- After each row the rows so far stand at the buffer's start, and the place is behind them (`row_more`); the buffer has room for all.
-use Prim.Native.Nat.{ℕ, ◌-◌, ◌/◌, ◌≤◌}
+use Prim.Native.Nat.{ℕ}
 use native.Mathlib.Omega.{arith}
-use mathlib.Core.Path.{◌≡◌, ◌∙◌, refl, ap}
+use mathlib.Core.Path.{◌∙◌, refl, ap}
 use mathlib.Core.List.{List}
-use lib.ListN.{length}
-use Rattle.image.proofs.saving.Laws.{rows_put, rows_start, row_room, row_more}
+use Rattle.image.proofs.saving.Laws.{rows_start, row_room, row_more}
 use Rattle.image.proofs.saving.put_rows.Goals as goal
 
 pub loop-row-init : goal.loop-row-init
 loop-row-init c =
-    let a = c.args in (rows_start a.share.now a.text.now, refl, omega arith)
+    let a = c.args in (rows_start a.share.now a.text.now, refl)
 
 pub put_row-at-requires : goal.put_row-at-requires
 put_row-at-requires c =
@@ -24,5 +23,4 @@ loop-row-preserved c =
     let more = c.loop-row-test.true in (
       row_more c.args.share.now c.args.text.now c.requires.1 so_far.row more so_far.invariant.0 c.put_row-at.ensures,
       c.put_row-at.auto.text ∙ so_far.invariant.1,
-      omega (arith, more),
     )

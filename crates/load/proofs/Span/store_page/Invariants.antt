@@ -1,5 +1,5 @@
--- The share so far is the definition's after i places.
-use Rattle.std.proofs.Common.{◌≡◌, ℕ, ◌+◌, ◌-◌, ◌≤◌, List, length, get_or}
+-- The share so far is the definition's after so many places.
+use Rattle.std.proofs.Common.{◌≡◌, ℕ, ◌+◌, List, get_or}
 use Rattle.base.specs.Fold.{up_to}
 use Rattle.load.specs.Span.{covers}
 use Rattle.load.specs.Load.{Load, load_of, store_byte}
@@ -9,13 +9,6 @@ use Rattle.load.proofs.Span.store_page.Given as goal
 abbrev pub store_in : ℕ → Load → ℕ → ℕ → List ℕ → List ℕ
 store_in size load first place store = store_byte (covers size load.span place) (first + place) (get_or load.values place 0) store
 
-abbrev pub invariant-loop-i : goal.invariant-loop-i
-invariant-loop-i l =
-    record {
-      so_far : l.share ≡ up_to (store_in l.size (load_of l.self l.values) l.first) l.i l.fn.share;
-      as_long : length l.share ≡ length l.fn.share;
-      in_page : l.i ≤ l.size;
-    }
-
-abbrev pub decreases-loop-i : goal.decreases-loop-i
-decreases-loop-i l = l.size - l.i
+abbrev pub invariant-loop-place : goal.invariant-loop-place
+invariant-loop-place l =
+    l.share ≡ up_to (store_in l.size (load_of l.self l.values) l.first) l.place l.fn.share

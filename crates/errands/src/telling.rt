@@ -6,9 +6,9 @@ use stream::write_on;
 
 // Standard error. A part of a message that it does not take is lost, and the next is told all the same.
 #[derive(Clone, Copy)]
-pub struct Errors<'a>(&'a HostRuntime);
+pub struct Told<'a>(&'a HostRuntime);
 
-impl Write for Errors<'_> {
+impl Write for Told<'_> {
     fn write(&mut self, text: &[u8]) -> io::Result<usize> {
         let _ = write_on(self.0, &mut self.0.stderr(), text);
         Ok(text.len())
@@ -19,8 +19,8 @@ impl Write for Errors<'_> {
     }
 }
 
-pub fn errors(rt: &HostRuntime) -> Errors<'_> {
-    Errors(rt)
+pub fn errors(rt: &HostRuntime) -> Told<'_> {
+    Told(rt)
 }
 
 // The program's name, and what it speaks of.

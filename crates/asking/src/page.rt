@@ -24,7 +24,7 @@ const NUMBER_DIGITS: usize = 4;
 
 const SHORTER: usize = 0x1000;
 
-// One to four digits.
+// One to four digits. (`from_str_radix` would take lower case and a sign.)
 fn number_of(digits: &[u8]) -> Option<usize>
     ensures { result ≡ number_of digits.now }
 {

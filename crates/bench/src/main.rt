@@ -105,7 +105,7 @@ fn finish(
     status.max(errands.finish())
 }
 
-// Loads, answers what comes, shows and saves.
+// Loads, answers what comes, shows and saves. Arrays and text are lent apart, since the conversation and the errands take them in turn.
 fn play(
     rt: &HostRuntime,
     traced: bool,

@@ -30,7 +30,7 @@ pub struct Bus {
     pub started: bool,
 }
 
-// Struct and verdict, and no `Result`: a refused set-up returns an empty state, and a refused step or run the state that it was given (paper, "Events
+// Three structs, each with its definition, and no `Result`: a refused set-up returns an empty state, and a refused step or run the state that it was given (paper, "Events
 // and replies"; `refused_set_up_is_empty`).
 #[derive(Clone, Copy, Debug, PartialEq, Eq)]
 pub struct SetUp {

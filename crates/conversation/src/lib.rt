@@ -18,6 +18,7 @@ use reader::Reader;
 pub struct Heard {
     pub used: usize,
     pub written: usize,
+    // The counts stand whether it is over or not, and `finished` has it so.
     pub over: bool,
 }
 

@@ -9,7 +9,7 @@ use std::io::{Result, Write};
 use stream::Patient;
 use transcript::frame::LF;
 
-// The number of the array store.
+// The number of the array store, as in `pages`.
 const ARRAY: u8 = 0;
 
 const LINE_BYTES: usize = 16;
@@ -44,7 +44,7 @@ fn shown_as(byte: u8) -> u8 {
     }
 }
 
-// A line without its bytes.
+// A line without its bytes, as an array, so that it is one write.
 fn bare_line(address: usize) -> [u8; LINE] {
     let [_, a] = byte_text((address / WORD % BYTE) as u8);
     let [b, c] = byte_text((address / BYTE % BYTE) as u8);
@@ -68,7 +68,7 @@ fn dump_line(address: usize, bytes: &[u8]) -> [u8; LINE] {
     line
 }
 
-// The lines of a page, from an address on.
+// The lines of a page, from an address on. The address is counted beside the chunks, since it may go round and no product of it has a bound.
 fn write_lines(out: &mut impl Write, start: usize, page: &[u8]) -> Result<()> {
     let mut address = start;
     for bytes in page.chunks(LINE_BYTES) {
@@ -78,6 +78,7 @@ fn write_lines(out: &mut impl Write, start: usize, page: &[u8]) -> Result<()> {
     Ok(())
 }
 
+// No twin of that of `trace`, which may meet a state of any part.
 fn part_name(part: u8) -> &'static str {
     match part {
         Part24CSM01::NUMBER => "24CSM01",

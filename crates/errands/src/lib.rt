@@ -31,7 +31,7 @@ pub const WORD: usize = PATH + PATH_MAX;
 // The most bytes of a file.
 const TEXT: usize = 2_097_152;
 
-// Room for a file. The length is said by itself, so that no caller has to count the bytes.
+// Room for a file. The length is said by itself, so that no caller has to count the bytes. (No generic room: each caller would name its size.)
 pub fn blank_text() -> [u8; TEXT]
     ensures { 2097152 ≡ length result }
 {
@@ -192,7 +192,8 @@ impl Errands<'_, '_, '_> {
         each_word(rt, &mut room, |_, word| self.prepare(word.unwrap_or(b"")))
     }
 
-    // After it: the others are shown and saved, whatever is not done. The state is asked for its board alone, which no event changes.
+    // After it, in two passes of one form: a function that takes the method would take the borrow of all fields with it. The others are shown and saved,
+    // whatever is not done. The state is asked for its board alone, which no event changes.
     pub fn finish(&mut self) -> Status {
         let rt = self.rt;
         let mut room = blank_word();

@@ -1,11 +1,26 @@
 // What goes wrong is told on standard error. Where that takes nothing there is nowhere else to tell it.
 use refusal::Refusal;
-use std::io::{Cursor, Error, Stderr, Write};
+use std::io::{Cursor, Error, Write};
 use std::{fmt, io};
-use stream::Patient;
+use stream::write_on;
 
-pub fn errors(rt: &HostRuntime) -> Patient<'_, HostRuntime, Stderr> {
-    Patient::new(rt, rt.stderr())
+// Standard error. A part of a message that it does not take is lost, and the next is told all the same.
+#[derive(Clone, Copy)]
+pub struct Told<'a>(&'a HostRuntime);
+
+impl Write for Told<'_> {
+    fn write(&mut self, text: &[u8]) -> io::Result<usize> {
+        let _ = write_on(self.0, &mut self.0.stderr(), text);
+        Ok(text.len())
+    }
+
+    fn flush(&mut self) -> io::Result<()> {
+        Ok(())
+    }
+}
+
+pub fn errors(rt: &HostRuntime) -> Told<'_> {
+    Told(rt)
 }
 
 // The program's name, and what it speaks of.

@@ -33,7 +33,7 @@ pub fn erased_arrays() -> [u8; ARRAYS]
     erased_memory()
 }
 
-// Its security registers likewise.
+// Its security registers likewise. Two public names, one for each store, over `erased_memory`.
 pub fn erased_registers() -> [u8; REGISTERS]
     ensures registers_size_value { registers_size ≡ length result }
     ensures value { result ≡ erased registers_size }
@@ -74,7 +74,7 @@ fn mark_serial(chip: usize, places: [Place; PLACES], security: &mut [u8])
     }
 }
 
-// Each chip's in its own share; all else stays.
+// Each chip's in its own share; all else stays. Count and places as set-up has them.
 #[tactic(auto, using(base::proofs::Fold::up_none, base::proofs::Fold::up_more))]
 pub fn mark_serials(count: usize, places: [Place; PLACES], security: &mut [u8])
     ensures { security.new ≡ serials count places security.old }

@@ -74,7 +74,8 @@ fn write_record(kind: u8, address: u16, content: &[u8], text: &mut [u8], at: usi
     text[check_at + BYTE_DIGITS] = LF;
 }
 
-// Writes a record from a place of the buffer on. One that has no room, or too many bytes, is not written.
+// Writes a record from a place of the buffer on. One that has no room, or too many bytes, is not written. The kind is a number, and buffer and place are
+// apart, here and in those that write for it: `put_record` and `patched` have them so.
 pub fn put_record(kind: u8, address: u16, content: &[u8], text: &mut [u8], at: usize)
     ensures { text.new ≡ put_record kind address content.now text.old at }
 {

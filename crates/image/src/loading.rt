@@ -14,10 +14,11 @@ use refusal::Refusal;
 #[derive(Clone, Copy, Debug, PartialEq, Eq)]
 pub struct LoadError {
     pub refusal: Refusal,
+    // 0 and no Option: `load_line` has it so.
     pub line: usize,
 }
 
-// Whether a reading goes on.
+// Whether a reading goes on: three cases, so neither an Option nor a Result.
 #[derive(Clone, Copy, Debug, PartialEq, Eq)]
 pub enum Progress {
     // No record was the end, and none was refused.

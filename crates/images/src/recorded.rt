@@ -24,7 +24,7 @@ const CHIP: usize = 0;
 
 const ERASED: u8 = 0xFF;
 
-// The number of a text buffer that is too short.
+// The number of a text buffer that is too short. The number itself is tried, so no name of `Refusal`.
 const SHORT_TEXT: usize = 19;
 
 // Room for a file. The length is said by itself, so that no caller has to count the bytes.

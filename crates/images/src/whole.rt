@@ -23,7 +23,7 @@ struct Filled<'a> {
     at: usize,
 }
 
-// Sixteen FFh and the count are 0 together, so that the check byte hangs on the address alone.
+// A row as bytes, since it is compared with bytes. Sixteen FFh and the count are 0 together, so that the check byte hangs on the address alone.
 fn erased_row(row: usize) -> [u8; ROW_TEXT] {
     let address = row % UPPER_ROWS * ROW_BYTES;
     let high = address / BYTE;

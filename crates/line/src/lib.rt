@@ -88,7 +88,8 @@ fn heard(before: Said, said: Said) -> Said
     }
 }
 
-// Events that meet neither the stores nor the values: Start, power up, and those that name a chip.
+// Events that meet neither the stores nor the values: Start, power up, and those that name a chip. Four loops and not one: each is lent what its event
+// meets, with a contract of its own (`LeavesAll`, `LeavesStores`, `play`, `ReadsFrom`), and one for all was slower (docs/SPEED.md).
 fn move_each(addressed: Addressed, count: usize, mut chips: [Chip; PLACES]) -> Played
     requires { meets_nothing (event_of addressed) ≡ true }
     ensures { LeavesAll addressed count chips result }

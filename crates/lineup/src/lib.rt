@@ -65,7 +65,7 @@ fn chips_heed(started: bool, controls: &[Control]) -> bool
         .all(|control| heeds_start(started, control.phase))
 }
 
-// Whatever numbers a state holds, it is well formed or not.
+// Whatever numbers a state holds, it is well formed or not. Count and chips as the definition has them.
 pub fn well_formed(count: usize, started: bool, chips: [Chip; PLACES]) -> bool
     ensures { result ≡ well_formed count started chips }
 {

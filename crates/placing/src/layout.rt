@@ -64,7 +64,7 @@ impl Board {
         }
     }
 
-    // Where its arrays end in a memory of some length: no later than the memory does.
+    // Where its arrays end in a memory of some length: no later than the memory does. Two public names, one for each store.
     pub fn array_end(self, most: usize) -> usize
         ensures upper_bound { result ≤ most }
         ensures value { result ≡ array_end self most }

@@ -2,6 +2,7 @@
 #![tactic(auto)]
 
 ghost use Rattle.std.specs.Prelude.{◌≡◌};
+ghost use Rattle.std.specs.Result.{is_ok};
 ghost use Rattle.refusal.specs.Refusal.{number_of, status_of, answer_word};
 
 // In the order of the paper's table, then of the requests. Number 9, a malformed line, is the transcript's.
@@ -75,6 +76,13 @@ pub fn status_of(verdict: Result<(), Refusal>) -> u8
         Ok(()) => 0,
         Err(refusal) => refusal.into(),
     }
+}
+
+// The other crates ask `is_ok`; this stays for those who use the library (`is_passed_unique`).
+pub fn is_passed(verdict: Result<(), Refusal>) -> bool
+    ensures { result ≡ is_ok verdict }
+{
+    verdict.is_ok()
 }
 
 // The answer to one event, its reply or why it was refused: status times 256 plus reply.

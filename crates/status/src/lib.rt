@@ -32,6 +32,7 @@ impl From<Status> for u8 {
     }
 }
 
+// The other crates write `max`; this stays for those who use the library (`greatest_unique`).
 pub fn greatest(a: Status, b: Status) -> Status
     ensures { result ≡ greatest a b }
 {

@@ -13,7 +13,8 @@ use std::io::{Error, ErrorKind, Read, Write};
 use std::thread::sleep;
 use std::time::{Clock, Duration};
 
-// What came of one call: so many bytes, at the start of what was lent; nothing yet, to be asked again; or the end.
+// What came of one call: so many bytes, at the start of what was lent; nothing yet, to be asked again; or the end: three
+// cases, since nothing yet is not the end.
 #[derive(Clone, Copy, Debug, PartialEq, Eq)]
 pub enum Came {
     Bytes(usize),

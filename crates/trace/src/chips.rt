@@ -69,7 +69,7 @@ impl Test {
     }
 }
 
-// The chip of which it holds, if there is one. Of partners, and of chips with an address, a well-formed line has one at most.
+// The chip of which it holds, if there is one. Count and chips as `line::play` has them. Of partners, and of chips with an address, a well-formed line has one at most.
 #[tactic(auto, unfolding(base::specs::Fold::up_to, crate::specs::Chips::who), using(crate::proofs::Placed::of_loop))]
 pub fn who(test: Test, count: usize, chips: [Chip; PLACES]) -> Option<usize>
     ensures { result ≡ who test count chips }

@@ -8,6 +8,7 @@ use load::Span;
 
 #[derive(Clone, Copy, Debug, PartialEq, Eq)]
 pub enum Dropped {
+    // `dropped_of` has the case.
     Nothing,
     // So many bytes of a page.
     Bytes(u16),

@@ -88,6 +88,7 @@ fn ending_array(c: Control, span: Span) -> Ending
     }
 }
 
+// No twin of `ending_array`: only here the ID page is asked for.
 fn ending_security(c: Control, span: Span) -> Ending
     ensures { result ≡ ending_security c span }
 {

@@ -2,7 +2,8 @@
 ghost use Rattle.std.specs.Prelude.{◌≡◌};
 ghost use Rattle.transcript.specs.Digit.{digit_of, digit_value};
 
-// What the table holds for a byte that is no digit.
+// What the table holds for a byte that is no digit. A mark and no Option: the table is the paper's, and `digit_of_unique` holds `digit_of`; others ask
+// `digit_value`.
 pub const NO_DIGIT: u8 = 255;
 
 // How many digits there are.

@@ -4,8 +4,8 @@ use std::env::{Env, FillError};
 // The first word is the program's own name.
 pub const OWN: usize = 1;
 
-// Shows each word behind the program's name, with its place, as long as the visitor goes on. A word that is too long for the room is
-// shown as none.
+// Shows each word after the program's name, with its place, as long as the visitor goes on. A word that is too long for the room is
+// shown as `None`.
 pub fn each_word<E, F: FnMut(usize, Option<&[u8]>) -> Result<(), E>>(
     rt: &impl Env,
     room: &mut [u8],

@@ -19,7 +19,7 @@ use std::io::{Cursor, Write};
 use stream::write_on;
 use transcript::frame::LF;
 
-// The first word that is none of those that are known. It is named by its place.
+// The first unknown word, by its place.
 #[derive(Clone, Copy)]
 pub enum WordFault {
     Unknown(usize),
@@ -75,7 +75,7 @@ impl Arguments {
         }
     }
 
-    // What all words ask for, up to the first that is none.
+    // What all words ask for, up to the first unknown one.
     pub fn read(&mut self, rt: &HostRuntime) -> Result<(), WordFault> {
         let mut room = blank_word();
         each_word(rt, &mut room, |i, word| match word {

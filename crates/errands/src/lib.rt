@@ -45,7 +45,7 @@ pub fn blank_word() -> [u8; WORD]
     [0u8; WORD]
 }
 
-// Why an errand is not done: it is refused, or a file is not to be had. Either was told on standard error.
+// Why an errand is not done: it is refused, or a file cannot be read or written. Either was reported on standard error.
 #[derive(Clone, Copy, Debug, PartialEq, Eq)]
 pub enum Undone {
     Refused(Refusal),
@@ -63,13 +63,13 @@ impl From<Undone> for Status {
     }
 }
 
-// The refusal is told, with the line of the file where one is at fault.
+// Reports a refusal, with the line of the file where one is at fault.
 fn refused(rt: &HostRuntime, name: &[u8], line: usize, refusal: Refusal) -> Undone {
     tell_refusal(rt, name, line, refusal);
     Undone::Refused(refusal)
 }
 
-// Why a call failed is told.
+// Reports why a call failed.
 fn failed(rt: &HostRuntime, name: &[u8], error: Error) -> Undone {
     tell_failure(rt, name, error);
     Undone::Failed

@@ -4,7 +4,7 @@ use std::io::{Cursor, Error, Write};
 use std::{fmt, io};
 use stream::write_on;
 
-// Standard error. A part of a message that it does not take is lost, and the next is told all the same.
+// Standard error. A part of a message that cannot be written is lost, and the next part is written all the same.
 #[derive(Clone, Copy)]
 pub struct Told<'a>(&'a HostRuntime);
 

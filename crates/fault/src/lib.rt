@@ -77,7 +77,7 @@ fn fault_after(byte: u8) -> Option<Fault>
     }
 }
 
-// By the number of digits before the first byte that is none.
+// By the number of digits at the start of the line.
 fn fault_behind(digits: usize, line: &[u8]) -> Option<Fault>
     ensures { result ≡ fault_behind digits line.now }
 {

@@ -1,7 +1,7 @@
 // Whole files, by name. No contract can say what a file holds, only that what was read fits the buffer.
 #![tactic(auto)]
 
-ghost use Rattle.std.specs.Prelude.{◌≡◌, ◌≤◌, ◌++◌, length, IfSome};
+ghost use Rattle.std.specs.Prelude.{◌≡◌, ◌≤◌, ◌++◌, length, IfSome, IsNone, ◌↔◌, ◌<◌, ◌+◌};
 ghost use Rattle.std.specs.Io.{ReadsAtMost};
 ghost use Rattle.files.specs.Content.{size_of};
 
@@ -127,7 +127,8 @@ pub fn prepare(files: &impl Files, path: &[u8]) -> io::Result<()> {
 
 // The name with its ending, at the start of a room for it.
 pub fn with_ending<'a>(name: &[u8], ending: &[u8], room: &'a mut [u8]) -> Option<&'a [u8]>
-    ensures { IfSome result (λ path. path.now ≡ name.now ++ ending.now) }
+    ensures path { IfSome result (λ path. path.now ≡ name.now ++ ending.now) }
+    ensures fits { IsNone result ↔ (length room.old < length name.now + length ending.now) }
 {
     if room.len() < name.len() || room.len() - name.len() < ending.len() {
         return None;

@@ -66,7 +66,7 @@ impl Recorded<'_> {
         tell(self.rt, self.name, what);
     }
 
-    // Whether a number is the one expected; one that is not is told.
+    // Whether a number is the one expected; another is reported.
     fn is_same(&self, what: &[u8], expected: usize, answered: usize) -> bool {
         if expected != answered {
             self.tell(what);
@@ -84,7 +84,7 @@ impl Recorded<'_> {
         erased
     }
 
-    // Whether the text in a buffer is the whole one; the line at which it differs is told.
+    // Whether the text in a buffer is the whole one; the line at which it differs is reported.
     fn is_text(&self, text: &[u8], whole: &[u8]) -> bool {
         let Some(line) = other_line(text, whole) else {
             return true;

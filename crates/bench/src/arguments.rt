@@ -4,7 +4,7 @@ use asking::asked_by;
 use asking::page::page_asked;
 use asking::status::status_asked;
 use asking::trace::asks_trace;
-use asking::words::{OWN, each_word};
+use asking::words::OWN;
 use board::{PLACES, Place};
 use errands::telling::{errors, tell_too_long};
 use errands::{WORD, blank_word};
@@ -12,7 +12,7 @@ use placing::layout::Board;
 use placing::place_named;
 use print::byte_text;
 use status::Status;
-use std::env::Env;
+use std::env::{Env, FillError};
 use std::fs::OpenOptions;
 use std::io;
 use std::io::{Cursor, Write};
@@ -78,10 +78,14 @@ impl Arguments {
     // What all words ask for, up to the first unknown one.
     pub fn read(&mut self, rt: &HostRuntime) -> Result<(), WordFault> {
         let mut room = blank_word();
-        each_word(rt, &mut room, |i, word| match word {
-            Some(word) => self.take(i, word),
-            None => Err(WordFault::TooLong),
-        })
+        for i in OWN..usize::MAX {
+            match rt.arg(i, &mut room) {
+                Ok(n) => self.take(i, &room[..n])?,
+                Err(FillError::TooLong) => return Err(WordFault::TooLong),
+                Err(FillError::NotPresent) => break,
+            }
+        }
+        Ok(())
     }
 }
 

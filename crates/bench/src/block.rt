@@ -1,4 +1,7 @@
 // Blocks of text: what has been read is answered before the program waits for more.
+ghost use Rattle.std.specs.Prelude.{◌<◌};
+ghost use Rattle.std.specs.ControlFlow.{ForContinue};
+
 use crate::telling::{tell_broken, tell_malformed};
 use crate::tracing::{is_traced, write_closing, write_malformed, write_traced};
 use bus::Bus;
@@ -11,10 +14,12 @@ use std::ops::ControlFlow;
 use stream::{Came, read_some, write_on};
 use transcript::frame::{FRAME_BYTES, MALFORMED};
 
-// How much of the tape is filled with text that is to be answered, and how many lines were answered before it.
+// How much of the tape is filled with text that is to be answered, and how many lines were answered before it. Nothing says that input
+// ends, so a count of the blocks that may come falls at each.
 #[derive(Clone, Copy)]
 pub struct Block {
     pub filled: usize,
+    pub left: u64,
     pub lines: u64,
 }
 
@@ -61,19 +66,24 @@ pub fn read_block(
     rt: &HostRuntime,
     tape: &mut [u8],
     kept: usize,
+    left: u64,
     lines: u64,
-) -> ControlFlow<Status, Block> {
-    if tape.len() < kept {
+) -> ControlFlow<Status, Block>
+    ensures { ForContinue result (λ block. block.left < left) }
+{
+    if left == 0 || tape.len() < kept {
         return ControlFlow::Break(Status::Broken);
     }
     let traced = is_traced(tape);
     match read_some(rt, &mut rt.stdin(), &mut tape[kept..]) {
         Ok(Came::Bytes(got)) => ControlFlow::Continue(Block {
             filled: kept + got,
+            left: left - 1,
             lines,
         }),
         Ok(Came::Nothing) => ControlFlow::Continue(Block {
             filled: kept,
+            left: left - 1,
             lines,
         }),
         Ok(Came::Ended) => ControlFlow::Break(ended(rt, &tape[..kept], traced, lines)),
@@ -98,7 +108,9 @@ pub fn next_block(
     after: Bus,
     tape: &mut [u8],
     said: &[u8],
-) -> ControlFlow<Status, Block> {
+) -> ControlFlow<Status, Block>
+    ensures { ForContinue result (λ next. next.left < block.left) }
+{
     let written = heard.written.min(said.len());
     let answers = &said[..written];
     let wrote = if is_traced(tape) {
@@ -115,5 +127,5 @@ pub fn next_block(
         return ControlFlow::Break(Status::Refused);
     }
     let kept = keep_rest(tape, block.filled, heard.used);
-    read_block(rt, tape, kept, lines)
+    read_block(rt, tape, kept, block.left, lines)
 }

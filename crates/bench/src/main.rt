@@ -19,7 +19,7 @@ use factory::{erased_arrays, erased_registers, mark_serials};
 use placing::layout::Board;
 use print::PRINTED_BYTES;
 use refusal::Refusal;
-use status::Status;
+use status::{Status, greatest};
 use std::ops::ControlFlow;
 use transcript::frame::FRAME_BYTES;
 
@@ -28,7 +28,7 @@ const TAPE: usize = 20_480;
 
 const SAID: usize = TAPE / FRAME_BYTES * PRINTED_BYTES + PRINTED_BYTES;
 
-// The state stands here from the first block to the last, which is answered. Nothing says that input ends, so the blocks are counted.
+// The state stands here from the first block to the last, which is answered.
 fn answer_input(
     rt: &HostRuntime,
     bus: Bus,
@@ -38,8 +38,8 @@ fn answer_input(
     said: &mut [u8],
 ) -> Status {
     let mut held = bus;
-    let mut next = read_block(rt, tape, 0, 0);
-    'blocks: for _ in 0..u64::MAX {
+    let mut next = read_block(rt, tape, 0, u64::MAX, 0);
+    'blocks: loop {
         match next {
             ControlFlow::Break(status) => return status,
             ControlFlow::Continue(block) => {
@@ -50,7 +50,6 @@ fn answer_input(
             }
         }
     }
-    Status::Broken
 }
 
 // A traced run has a tape for one line, and room for one answer.
@@ -102,7 +101,7 @@ fn finish(
         security,
         text,
     };
-    status.max(errands.finish())
+    greatest(status, errands.finish())
 }
 
 // Loads, answers what comes, shows and saves. Arrays and text are lent apart, since the conversation and the errands take them in turn.

@@ -30,7 +30,7 @@ module _ (tape : List ℕ) (filled used : ℕ) where
   abbrev rest : List ℕ
   rest = rest_of tape filled used
 
-  length_rest : length rest ≡ end - from
+  pub length_rest : length rest ≡ end - from
   length_rest = length-drop used (text_on tape filled) ∙ omega arith
 
   cut : take (end - from) (drop from tape) ≡ rest

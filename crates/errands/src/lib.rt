@@ -8,7 +8,7 @@ pub mod telling;
 ghost use Rattle.std.specs.Prelude.{◌≡◌, length};
 
 use asking::page::{PageAsked, page_asked};
-use asking::words::each_word;
+use asking::words::OWN;
 use asking::{Asked, PATH, asked_by};
 use bus::Bus;
 use dump::show;
@@ -18,7 +18,8 @@ use image::saving::save;
 use lineup::places_of;
 use pages::page_verdict;
 use refusal::Refusal;
-use status::Status;
+use status::{Status, greatest};
+use std::env::{Env, FillError};
 use std::io::Error;
 use telling::{tell_failure, tell_no_page, tell_refusal, tell_too_long};
 
@@ -73,6 +74,25 @@ fn refused(rt: &HostRuntime, name: &[u8], line: usize, refusal: Refusal) -> Undo
 fn failed(rt: &HostRuntime, name: &[u8], error: Error) -> Undone {
     tell_failure(rt, name, error);
     Undone::Failed
+}
+
+// Shows each word, as long as the visitor goes on. One that is longer than any errand is shown as none. Private: who calls a visitor has
+// to require that it may be called.
+fn each_word<F: FnMut(&[u8]) -> Result<(), Undone>>(
+    rt: &HostRuntime,
+    mut visit: F,
+) -> Result<(), Undone>
+    requires { F.IsAlwaysCallable visit }
+{
+    let mut room = blank_word();
+    for i in OWN..usize::MAX {
+        match rt.arg(i, &mut room) {
+            Ok(n) => visit(&room[..n])?,
+            Err(FillError::TooLong) => visit(b"")?,
+            Err(FillError::NotPresent) => break,
+        }
+    }
+    Ok(())
 }
 
 // A board with its memories, and room for a file: what the errands are run on.
@@ -186,31 +206,29 @@ impl Errands<'_, '_, '_> {
     // Before a run: nothing is to be played unless all is done. The first that is not ends it.
     pub fn begin(&mut self) -> Result<(), Undone> {
         let rt = self.rt;
-        let mut room = blank_word();
-        each_word(rt, &mut room, |_, word| self.check(word.unwrap_or(b"")))?;
-        each_word(rt, &mut room, |_, word| self.load(word.unwrap_or(b"")))?;
-        each_word(rt, &mut room, |_, word| self.prepare(word.unwrap_or(b"")))
+        each_word(rt, |word| self.check(word))?;
+        each_word(rt, |word| self.load(word))?;
+        each_word(rt, |word| self.prepare(word))
     }
 
     // After it, in two passes of one form: a function that takes the method would take the borrow of all fields with it. The others are shown and saved,
     // whatever is not done. The state is asked for its board alone, which no event changes.
     pub fn finish(&mut self) -> Status {
         let rt = self.rt;
-        let mut room = blank_word();
         let mut shown = Status::Answered;
-        let _ = each_word(rt, &mut room, |_, word| -> Result<(), Undone> {
-            if let Err(undone) = self.show(word.unwrap_or(b"")) {
+        let _ = each_word(rt, |word| -> Result<(), Undone> {
+            if let Err(undone) = self.show(word) {
                 shown = Status::from(undone);
             }
             Ok(())
         });
         let mut saved = Status::Answered;
-        let _ = each_word(rt, &mut room, |_, word| -> Result<(), Undone> {
-            if let Err(undone) = self.save(word.unwrap_or(b"")) {
+        let _ = each_word(rt, |word| -> Result<(), Undone> {
+            if let Err(undone) = self.save(word) {
                 saved = Status::from(undone);
             }
             Ok(())
         });
-        shown.max(saved)
+        greatest(shown, saved)
     }
 }

@@ -10,7 +10,7 @@ use files::{read_whole, with_ending};
 use image::loading::load;
 use image::saving::save;
 use placing::layout::Board;
-use refusal::Refusal;
+use refusal::{Refusal, status_of};
 use std::io::Print;
 
 // The most bytes of a file, and of what is saved.
@@ -159,10 +159,8 @@ impl Recorded<'_> {
             return false;
         };
         let loaded = load(bus, array, security, CHIP, &text[..size]);
-        let (number, line) = match loaded {
-            Ok(()) => (0, 0),
-            Err(error) => (u8::from(error.refusal) as usize, error.line),
-        };
+        let number = status_of(loaded.map_err(|error| error.refusal)) as usize;
+        let line = loaded.err().map_or(0, |error| error.line);
         let same_number = self.is_same(b": number: ", self.expected.number, number);
         let same_line = self.is_same(b": line: ", self.expected.line, line);
         if !(same_number && same_line) {
@@ -200,10 +198,7 @@ impl Recorded<'_> {
 
 // The number of a refusal, 0 of a text that is saved.
 fn number_of(saved: Result<usize, Refusal>) -> usize {
-    match saved {
-        Ok(_) => 0,
-        Err(refusal) => u8::from(refusal) as usize,
-    }
+    status_of(saved.and(Ok(()))) as usize
 }
 
 // One chip, at strap 0.

@@ -1,3 +1,4 @@
 pub mod Agree
+pub mod Data
 pub mod Same
 pub mod Edges

@@ -9,6 +9,9 @@ ghost use Rattle.placing.specs.Placing.{is_place, place_of, place_named};
 use board::Place;
 use transcript::digit::digit_value;
 
+// A digit, the colon, a digit.
+pub const NAME: usize = 3;
+
 const COLON: u8 = b':';
 
 fn place_of(part: u8, colon: u8, strap: u8) -> Option<Place>
@@ -26,7 +29,7 @@ fn place_of(part: u8, colon: u8, strap: u8) -> Option<Place>
 pub fn place_named(word: &[u8]) -> Option<Place>
     ensures { result ≡ place_named word.now }
 {
-    let [part, colon, strap] = word else {
+    let Some([part, colon, strap]) = word.as_array::<NAME>() else {
         return None;
     };
     place_of(*part, *colon, *strap)

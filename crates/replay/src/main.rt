@@ -4,10 +4,11 @@
 
 mod recording;
 
-use asking::words::each_word;
+use asking::words::OWN;
 use placing::layout::Board;
 use placing::place_named;
 use recording::as_recorded;
+use std::env::{Env, FillError};
 use std::io;
 
 // A word has fewer bytes than this.
@@ -44,10 +45,13 @@ fn main(rt: HostRuntime) -> io::Result<()> {
         played: 0,
         differ: 0,
     };
-    each_word(&rt, &mut room, |_, word| -> io::Result<()> {
-        tally.take(&rt, word.unwrap_or(b""));
-        Ok(())
-    })?;
+    for i in OWN..usize::MAX {
+        match rt.arg(i, &mut room) {
+            Ok(n) => tally.take(&rt, &room[..n]),
+            Err(FillError::TooLong) => tally.take(&rt, b""),
+            Err(FillError::NotPresent) => break,
+        }
+    }
     let Tally { played, differ, .. } = tally;
     println!(rt; "{played} played, {differ} differ")
 }

@@ -77,10 +77,12 @@ pub fn write_on<W: Write>(clock: &impl Clock, to: &mut W, text: &[u8]) -> io::Re
     ensures part { AppendsFront (W.contents to.old) (W.contents to.new) text.now }
 {
     let mut done: usize = 0;
-    'tries: for _ in 0..u64::MAX {
-        if text.len() <= done {
-            return Ok(());
-        }
+    let mut tries = u64::MAX;
+    while done < text.len() {
+        let Some(left) = tries.checked_sub(1) else {
+            return Err(Error::from(ErrorKind::TimedOut));
+        };
+        tries = left;
         let rest = &text[done..];
         match came_of(clock, to.write(rest), rest)? {
             Came::Bytes(taken) => done += taken,
@@ -88,7 +90,7 @@ pub fn write_on<W: Write>(clock: &impl Clock, to: &mut W, text: &[u8]) -> io::Re
             Came::Ended => return Err(Error::from(ErrorKind::WriteZero)),
         }
     }
-    Err(Error::from(ErrorKind::TimedOut))
+    Ok(())
 }
 
 // A writer that is written to with patience.

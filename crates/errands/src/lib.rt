@@ -76,8 +76,8 @@ fn failed(rt: &HostRuntime, name: &[u8], error: Error) -> Undone {
     Undone::Failed
 }
 
-// Shows each word, as long as the visitor goes on. One that is longer than any errand is shown as none. Private: who calls a visitor has
-// to require that it may be called.
+// Shows each word, as long as the visitor goes on. One that is longer than any errand is shown as the empty word. Private: who calls a
+// visitor has to require that it may be called.
 fn each_word<F: FnMut(&[u8]) -> Result<(), Undone>>(
     rt: &HostRuntime,
     mut visit: F,

@@ -32,7 +32,7 @@ impl From<Status> for u8 {
     }
 }
 
-// The other crates write `max`; this stays for those who use the library (`greatest_unique`).
+// How a run ends where several statuses apply: `bench` and `errands` ask this (`greatest_unique`).
 pub fn greatest(a: Status, b: Status) -> Status
     ensures { result ≡ greatest a b }
 {
